@@ -1,0 +1,9 @@
+pub mod Lists
+pub mod Steps
+pub mod Problems
+pub mod States
+pub mod Clauses
+pub mod Formula
+pub mod Sheets
+pub mod Refusals
+pub mod Laws

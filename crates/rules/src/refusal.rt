@@ -1,0 +1,25 @@
+// Why a call refuses. Each cause has a number, which `number` in specs/Refusals.antt gives it.
+#[derive(Clone, Copy, PartialEq, Eq, Debug)]
+pub enum Refusal {
+    TooShort,
+    HeadOutOfRange,
+    WrongLength,
+    UnknownPair,
+    PairsNotRising,
+    SetsAndClears,
+    BadRequest,
+    BadClause,
+    NoSpace,
+    SinkNotEmpty,
+    TooManyVariables,
+    NotClauseText,
+    NotAnAnswer,
+    BadTruthMemory,
+    NotAModel,
+    BadSheetLines,
+    SheetDoesNotHold,
+    NotAsNoted,
+    BadLemma,
+    NotShown,
+    CutTooLong,
+}
