@@ -7,7 +7,6 @@ ghost use base.Fml.{GName};
 ghost use lib.ListN.{length};
 ghost use Rattle.rules.specs.Clauses.{Clause, bad-clause, total};
 ghost use Rattle.clauses.specs.Judged.{judged, held-after, free-after};
-
 use crate::source::Source;
 use rules::Refusal;
 

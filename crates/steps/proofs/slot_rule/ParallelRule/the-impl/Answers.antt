@@ -1,0 +1,5 @@
+use Rattle.steps.proofs.Laws.{parallel-lawful}
+use Rattle.steps.proofs.slot_rule.ParallelRule.the-impl.Needs as need
+
+pub lawful-law : need.lawful-law
+lawful-law s = parallel-lawful
