@@ -1,3 +1,5 @@
 pub mod Asked
 pub mod Walk
 pub mod Judged
+pub mod Rows
+pub mod Granted

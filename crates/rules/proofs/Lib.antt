@@ -1,3 +1,10 @@
 pub mod Tests
 pub mod Members
 pub mod Ranges
+pub mod Orders
+pub mod Slots
+pub mod Lines
+pub mod Decoding
+pub mod Models
+pub mod Rules
+pub mod Serial

@@ -1,7 +1,13 @@
 // The definitions that every contract cites, and their laws. Only plain types are code.
+mod laws;
 mod line;
 mod refusal;
 
+pub use laws::any_order;
+pub use laws::formula_means_sheets;
+pub use laws::parallel_lawful;
+pub use laws::sheets_can_be_done;
+pub use laws::single_lawful;
 pub use line::Line;
 pub use line::LineDebug;
 pub use line::LinePartialEq;

@@ -1,4 +1,4 @@
-use Rattle.steps.proofs.Laws.{parallel-lawful}
+use Rattle.rules.proofs.Rules.{parallel-lawful}
 use Rattle.steps.proofs.slot_rule.ParallelRule.the-impl.Needs as need
 
 pub lawful-law : need.lawful-law
