@@ -10,26 +10,41 @@ use Rattle.rules.specs.Problems.{Problem, step}
 use Rattle.steps.specs.declared.fact_set.FactSet.{FactSet}
 use Rattle.steps.specs.declared.step_record.StepRecord.{StepRecord}
 use Rattle.steps.specs.Sets.{facts-in, meaning}
+use Rattle.problem.specs.Collected.{empty-set}
+use Rattle.problem.specs.declared.part.Part.{Part}
+use Rattle.problem.specs.declared.part.Part.the-variants.{Needs, Sets, Clears}
 use Rattle.problem.specs.declared.table.StepTable.{StepTable}
-
-abbrev pub none : FactSet
-none = record { bits = 0 }
 
 -- the set under a code, empty past the table
 abbrev pub under : List FactSet → ℕ → List ℕ
-under sets c = facts-in (getD sets c none)
+under sets c = facts-in (getD sets c empty-set)
 
--- the problem that the table states
-abbrev pub means : StepTable → Problem
-means t = record {
-  facts = t .facts;
-  steps = t .steps;
-  needs = λ a. under (t .sets) (4 * a);
-  sets = λ a. under (t .sets) (4 * a + 1);
-  clears = λ a. under (t .sets) (4 * a + 2);
-  start = under (t .sets) 0;
-  goals = under (t .sets) 1;
+-- the problem that the numbers and sets of a table state
+abbrev pub stated-by : ℕ → ℕ → List FactSet → Problem
+stated-by f a sets = record {
+  facts = f;
+  steps = a;
+  needs = λ n. under sets (4 * n);
+  sets = λ n. under sets (4 * n + 1);
+  clears = λ n. under sets (4 * n + 2);
+  start = under sets 0;
+  goals = under sets 1;
 }
+
+abbrev pub means : StepTable → Problem
+means t = stated-by (t .facts) (t .steps) (t .sets)
+
+-- the facts that step a needs, sets or clears
+abbrev pub part-of : Problem → Part → ℕ → List ℕ
+part-of p Needs = p .needs
+part-of p Sets = p .sets
+part-of p Clears = p .clears
+
+-- a part's place among a step's four codes
+abbrev pub offset-of : Part → ℕ
+offset-of Needs = 0
+offset-of Sets = 1
+offset-of Clears = 2
 
 -- the record of step a where there is such a step, and nothing elsewhere
 abbrev pub Step-asked : Problem → ℕ → Option StepRecord → Type 0

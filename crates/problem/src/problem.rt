@@ -14,3 +14,5 @@ pub struct Problem<'a> {
 }
 
 mod methods;
+
+pub use methods::read_problem;

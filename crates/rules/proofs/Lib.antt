@@ -8,3 +8,4 @@ pub mod Decoding
 pub mod Models
 pub mod Rules
 pub mod Serial
+pub mod Counting
