@@ -1,0 +1,3 @@
+pub mod Widths
+pub mod Visiting
+pub mod Frames
