@@ -3,7 +3,7 @@ use mathlib.Core.Path.{_≡_, refl, sym, _∙_, ap}
 use mathlib.Core.List.{List, [], _∷_, _++_}
 use mathlib.Core.Bool.{Bool, true, false, _||_}
 use mathlib.Core.Logic.{_⊎_, inl, inr}
-use Prim.Native.Nat.{ℕ, _+_, _<_, _≤_}
+use Prim.Native.Nat.{ℕ, zero, suc, _+_, _<_, _≤_}
 use native.Mathlib.Omega.{arith}
 use lib.Dec.{ltb, eqb}
 use lib.IntN.{ℤ, pos, natAbs}
@@ -44,3 +44,9 @@ good-here w c i s h e n l =
     let m : natAbs (getD c i (pos 0)) ≤ w = omega arith in
     let f : bad-literal w (getD c i (pos 0)) ≡ false = or-from (eqb (natAbs (getD c i (pos 0))) 0) (ltb w (natAbs (getD c i (pos 0)))) (ne-eqb (natAbs (getD c i (pos 0))) 0 (λ z. n (e ∙ z))) (le-ltb w (natAbs (getD c i (pos 0))) m) in
     at-drop-more (any (bad-literal w)) c i (pos 0) h ∙ ap (λ b. b || any (bad-literal w) (drop (i + 1) c)) f
+
+-- a literal of a clause that has no bad one
+pub good-at : (w : ℕ) (c : Clause) (i : ℕ) → any (bad-literal w) c ≡ false → i < length c → bad-literal w (getD c i (pos 0)) ≡ false
+good-at w [] i h l = absurd (omega arith)
+good-at w (x ∷ c) zero h l = or-parts (bad-literal w x) (any (bad-literal w) c) h .0
+good-at w (x ∷ c) (suc i) h l = good-at w c i (or-parts (bad-literal w x) (any (bad-literal w) c) h .1) (omega arith)

@@ -41,11 +41,20 @@ parse-app b (negsuc n ∷ xs) ys h =
     let ih = parse-app false xs ys h in
     (ap (onto (negsuc n)) (ih .0) ∙ onto-app (negsuc n) (parse xs) (parse ys) (ih .1 refl), λ e. full-onto (negsuc n) (parse xs) (ih .1 refl))
 
-pub parse-clause : (w : ℕ) (c : List ℤ) → any (bad-literal w) c ≡ false → parse (c ++ (pos 0 ∷ [])) ≡ c ∷ []
-parse-clause w [] h = refl
-parse-clause w (pos zero ∷ c) h = absurd (true≢false h)
-parse-clause w (pos (suc n) ∷ c) h = ap (onto (pos (suc n))) (parse-clause w c (or-parts (bad-literal w (pos (suc n))) (any (bad-literal w) c) h .1))
-parse-clause w (negsuc n ∷ c) h = ap (onto (negsuc n)) (parse-clause w c (or-parts (bad-literal w (negsuc n)) (any (bad-literal w) c) h .1))
+-- a clause, its 0, and what comes after
+pub parse-clause : (w : ℕ) (c : Clause) (ws : List ℤ) → any (bad-literal w) c ≡ false → parse (c ++ (pos 0 ∷ ws)) ≡ c ∷ parse ws
+parse-clause w [] ws h = refl
+parse-clause w (pos zero ∷ c) ws h = absurd (true≢false h)
+parse-clause w (pos (suc n) ∷ c) ws h = ap (onto (pos (suc n))) (parse-clause w c ws (or-parts (bad-literal w (pos (suc n))) (any (bad-literal w) c) h .1))
+parse-clause w (negsuc n ∷ c) ws h = ap (onto (negsuc n)) (parse-clause w c ws (or-parts (bad-literal w (negsuc n)) (any (bad-literal w) c) h .1))
+
+-- the words of clauses stand for them
+pub parse-flat : (w : ℕ) (cs : List Clause) → any (bad-clause w) cs ≡ false → parse (flat cs) ≡ cs
+parse-flat w [] h = refl
+parse-flat w (c ∷ cs) h =
+    let p = or-parts (bad-clause w c) (any (bad-clause w) cs) h in
+    let q = or-parts (ltb 130 (length c)) (any (bad-literal w) c) (p .0) in
+    parse-clause w c (flat cs) (q .1) ∙ ap (λ ds. c ∷ ds) (parse-flat w cs (p .1))
 
 pub ends-app : (b : Bool) (xs ys : List ℤ) → ends b (xs ++ ys) ≡ ends (ends b xs) ys
 ends-app b [] ys = refl
@@ -80,14 +89,14 @@ count-le (pos (suc n) ∷ xs) = omega (arith, count-le xs, length-onto (pos (suc
 count-le (negsuc n ∷ xs) = omega (arith, count-le xs, length-onto (negsuc n) (parse xs))
 
 -- one word on, while the clause is sought
-past-zero : (x : ℤ) (xs : List ℤ) (m : ℕ) → x ≡ pos 0 → at0 (parse (x ∷ xs)) (suc m) ≡ at0 (parse xs) m
+pub past-zero : (x : ℤ) (xs : List ℤ) (m : ℕ) → x ≡ pos 0 → at0 (parse (x ∷ xs)) (suc m) ≡ at0 (parse xs) m
 past-zero x xs m e = ap (λ (y : ℤ). at0 (parse (y ∷ xs)) (suc m)) e
 
 at-onto : (l : ℤ) (cs : List Clause) (m : ℕ) → at0 (onto l cs) (suc m) ≡ at0 cs (suc m)
 at-onto l [] m = refl
 at-onto l (c ∷ cs) m = refl
 
-past-word : (x : ℤ) (xs : List ℤ) (m : ℕ) → (x ≡ pos 0 → ⊥) → at0 (parse (x ∷ xs)) (suc m) ≡ at0 (parse xs) (suc m)
+pub past-word : (x : ℤ) (xs : List ℤ) (m : ℕ) → (x ≡ pos 0 → ⊥) → at0 (parse (x ∷ xs)) (suc m) ≡ at0 (parse xs) (suc m)
 past-word (pos zero) xs m ne = absurd (ne refl)
 past-word (pos (suc n)) xs m ne = at-onto (pos (suc n)) (parse xs) m
 past-word (negsuc n) xs m ne = at-onto (negsuc n) (parse xs) m
@@ -151,15 +160,16 @@ zero-of z f e = omega (arith, ints)
 pub spent : (ws : List ℤ) (used : ℕ) → used ≤ length ws → ends true (take used ws) ≡ true → any (bad-clause 4096) (parse (take used ws)) ≡ false → total word-cost (parse (take used ws)) ≡ used
 spent ws used h e g = total-flat (parse (take used ws)) g ∙ ap length (flat-parse true (take used ws) e) ∙ length-take-le used ws h
 
-pub put-step : (ws₀ ws c : List ℤ) (at i : ℕ) (y : ℤ) → take (at + i) ws ≡ take at ws₀ ++ take i c → at + i < length ws → i < length c → y ≡ getD c i (pos 0) → take (at + (i + 1)) (set ws (at + i) y) ≡ take at ws₀ ++ take (i + 1) c
-put-step ws₀ ws c at i y inv l h e =
+-- one more item is written after a row
+pub put-step : {X : Type 0} (ws₀ ws c : List X) (at i : ℕ) (d y : X) → take (at + i) ws ≡ take at ws₀ ++ take i c → at + i < length ws → i < length c → y ≡ getD c i d → take (at + (i + 1)) (set ws (at + i) y) ≡ take at ws₀ ++ take (i + 1) c
+put-step ws₀ ws c at i d y inv l h e =
     let a : at + (i + 1) ≡ at + i + 1 = omega arith in
     ap (λ n. take n (set ws (at + i) y)) a
     ∙ take-more-set ws (at + i) y l
     ∙ ap (λ xs. xs ++ (y ∷ [])) inv
     ∙ append-assoc (take at ws₀) (take i c) (y ∷ [])
     ∙ ap (λ z. take at ws₀ ++ (take i c ++ (z ∷ []))) e
-    ∙ ap (λ xs. take at ws₀ ++ xs) (sym (take-more c i (pos 0) h))
+    ∙ ap (λ xs. take at ws₀ ++ xs) (sym (take-more c i d h))
 
 pub put-end : (ws₀ ws c : List ℤ) (at i : ℕ) → take (at + i) ws ≡ take at ws₀ ++ take i c → i ≡ length c → at + length c < length ws → take (at + length c + 1) (set ws (at + length c) (pos 0)) ≡ take at ws₀ ++ (c ++ (pos 0 ∷ []))
 put-end ws₀ ws c at i inv e l =
@@ -232,7 +242,7 @@ closed-at b (w ∷ ws) zero x ys h e =
     ap (λ (z : ℤ). ends (is-zero z) ys) (sym p) ∙ ap (ends (is-zero w)) (sym q) ∙ h
 closed-at b (w ∷ ws) (suc i) x ys h e = closed-at (is-zero w) ws i x ys h e
 
-word-is : (x : ℤ) (ys : List ℤ) → ends (is-zero x) ys ≡ true → Word x (parse (x ∷ ys)) (parse ys)
+pub word-is : (x : ℤ) (ys : List ℤ) → ends (is-zero x) ys ≡ true → Word x (parse (x ∷ ys)) (parse ys)
 word-is (pos zero) ys h = refl
 word-is (pos (suc n)) ys h = (refl, parse-app false ys [] h .1 refl)
 word-is (negsuc n) ys h = (refl, parse-app false ys [] h .1 refl)
@@ -241,3 +251,25 @@ pub reads-row : (ws : List ℤ) (i : ℕ) → ends true ws ≡ true → i < leng
 reads-row ws i h l =
     let e = drop-more ws i (pos 0) l in
     subst (λ (zs : List ℤ). Word (getD ws i (pos 0)) (parse zs) (parse (drop (i + 1) ws))) (sym e) (word-is (getD ws i (pos 0)) (drop (i + 1) ws) (closed-at true ws i (getD ws i (pos 0)) (drop (i + 1) ws) h e))
+
+-- a literal of the first clause, one word on
+pub pick-zero : (x : ℤ) (xs : List ℤ) (k : ℕ) → x ≡ pos 0 → literal0 (at0 (parse (x ∷ xs)) 0) k ≡ None
+pick-zero x xs k e = ap (λ (y : ℤ). literal0 (at0 (parse (y ∷ xs)) 0) k) e
+
+onto-first : (l : ℤ) (cs : List Clause) → some-clause cs ≡ true → literal0 (at0 (onto l cs) 0) 0 ≡ Some l
+onto-first l [] h = absurd (false≢true h)
+onto-first l (c ∷ cs) h = refl
+
+pub pick-first : (x : ℤ) (xs : List ℤ) → (x ≡ pos 0 → ⊥) → ends false xs ≡ true → literal0 (at0 (parse (x ∷ xs)) 0) 0 ≡ Some x
+pick-first (pos zero) xs ne h = absurd (ne refl)
+pick-first (pos (suc n)) xs ne h = onto-first (pos (suc n)) (parse xs) (parse-app false xs [] h .1 refl)
+pick-first (negsuc n) xs ne h = onto-first (negsuc n) (parse xs) (parse-app false xs [] h .1 refl)
+
+onto-later : (l : ℤ) (cs : List Clause) (k : ℕ) → literal0 (at0 (onto l cs) 0) (suc k) ≡ literal0 (at0 cs 0) k
+onto-later l [] k = refl
+onto-later l (c ∷ cs) k = refl
+
+pub pick-later : (x : ℤ) (xs : List ℤ) (k : ℕ) → (x ≡ pos 0 → ⊥) → literal0 (at0 (parse (x ∷ xs)) 0) (suc k) ≡ literal0 (at0 (parse xs) 0) k
+pick-later (pos zero) xs k ne = absurd (ne refl)
+pick-later (pos (suc n)) xs k ne = onto-later (pos (suc n)) (parse xs) k
+pick-later (negsuc n) xs k ne = onto-later (negsuc n) (parse xs) k

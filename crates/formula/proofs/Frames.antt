@@ -46,12 +46,14 @@ module _ (p : Problem) (few : p .steps ≤ 128) (part : Part) (u f : ℕ) where
   pub filled-hit : (all xs : List ℤ) (n a : ℕ) (x : ℤ) → Filled all xs n a → a < p .steps + 1 → has f (part-of p part a) ≡ true → x ≡ aye (step-var p u a) → Filled all (set xs n x) (n + 1) (a + 1)
   filled-hit all xs n a x h l e k =
       let rest = doers p part u f (counting (a + 1) (p .steps + 1 - (a + 1))) in
-      let within : n < length xs = omega (arith, h .0, h .1, few) in
-      (omega (arith, h .0), simp length-set (h .1),
-       ap (λ ls. ls ++ rest) (take-more-set xs n x within)
-       ∙ append-assoc (take n xs) (x ∷ []) rest
-       ∙ ap (λ z. take n xs ++ (z ∷ rest)) k
-       ∙ ap (λ ls. take n xs ++ ls) (sym (next a true l e)) ∙ h .2)
+      let within : n < length xs = omega (arith, h .0, h .1, few) in (
+        omega (arith, h .0),
+        simp length-set (h .1),
+        ap (λ ls. ls ++ rest) (take-more-set xs n x within)
+            ∙ append-assoc (take n xs) (x ∷ []) rest
+            ∙ ap (λ z. take n xs ++ (z ∷ rest)) k
+            ∙ ap (λ ls. take n xs ++ ls) (sym (next a true l e)) ∙ h .2,
+      )
 
   pub filled-end : (all xs : List ℤ) (n a : ℕ) → Filled all xs n a → p .steps + 1 ≤ a → take (n - 0) xs ≡ all
   filled-end all xs n a h l =

@@ -1,3 +1,4 @@
 pub mod Widths
 pub mod Visiting
 pub mod Frames
+pub mod Totals

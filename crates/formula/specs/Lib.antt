@@ -1,3 +1,4 @@
 pub mod Visits
 pub mod Effects
 pub mod Rows
+pub mod Sizes

@@ -5,7 +5,6 @@ ghost use lib.IntN.{pos, negℤ};
 ghost use Rattle.rules.specs.Formula.{fact-var, step-var};
 ghost use Rattle.problem.specs.Tables.{means};
 ghost use Rattle.formula.specs.Effects.{effect-literal};
-
 use problem::Part;
 use problem::StepTable;
 

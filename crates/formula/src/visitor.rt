@@ -17,7 +17,12 @@ pub trait ClauseVisitor<S> {
 }
 
 // Shows the clause if the test holds.
-pub(crate) fn visit_if<S, V: ClauseVisitor<S>>(test: bool, clause: &[i32], v: &V, state: &mut S) -> Result<(), V::Stop>
+pub(crate) fn visit_if<S, V: ClauseVisitor<S>>(
+    test: bool,
+    clause: &[i32],
+    v: &V,
+    state: &mut S,
+) -> Result<(), V::Stop>
     ensures visits_if { λ r. ⌜ Visits (V·ClauseVisitor .one (now (v .entry))) (now (state .entry)) (only test (now (clause .entry))) r (now (state .exit)) ⌝ }
 {
     if test { v.visit(state, clause) } else { Ok(()) }

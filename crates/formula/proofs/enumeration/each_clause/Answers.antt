@@ -14,9 +14,11 @@ pub loop-u-again : need.loop-u-again
 loop-u-again g c = along-more (g .V·ClauseVisitor .one (c .args .v .now)) (slot-clauses (means (c .args .table .now)) (g .R·SlotRule .parts (c .args .rule .now))) _ _ _ _ _ _ (c .loop-u .inv) (c .loop-u-test .taken) (c .in-Continue-each-of-slot .ensures tt .visits-slot)
 
 pub returns : need.returns
-returns g c = record { visits-formula =
+returns g c = record {
+  visits-formula =
       visits-then (g .V·ClauseVisitor .one (c .args .v .now)) (start-clauses (means (c .args .table .now))) _ _ _ _ _ (c .in-Continue-each-start .ensures tt .visits-starts)
-      (visits-then (g .V·ClauseVisitor .one (c .args .v .now)) (each (slot-clauses (means (c .args .table .now)) (g .R·SlotRule .parts (c .args .rule .now))) (counting 0 (c .args .horizon))) _ _ _ _ _ (along-end (g .V·ClauseVisitor .one (c .args .v .now)) (slot-clauses (means (c .args .table .now)) (g .R·SlotRule .parts (c .args .rule .now))) _ _ _ _ _ (c .loop-u .inv) (c .loop-u-test .left)) (c .each-goal .ensures .visits-goals)) }
+      (visits-then (g .V·ClauseVisitor .one (c .args .v .now)) (each (slot-clauses (means (c .args .table .now)) (g .R·SlotRule .parts (c .args .rule .now))) (counting 0 (c .args .horizon))) _ _ _ _ _ (along-end (g .V·ClauseVisitor .one (c .args .v .now)) (slot-clauses (means (c .args .table .now)) (g .R·SlotRule .parts (c .args .rule .now))) _ _ _ _ _ (c .loop-u .inv) (c .loop-u-test .left)) (c .each-goal .ensures .visits-goals));
+}
 
 pub returns-in-Break-each-start : need.returns-in-Break-each-start
 returns-in-Break-each-start g c =
@@ -28,7 +30,9 @@ pub returns-in-Break-each-of-slot : need.returns-in-Break-each-of-slot
 returns-in-Break-each-of-slot g c =
     let e = c .from-residual-in-Break-each-of-slot in
     let p = err-from-errBy (e .result) (e .ensures .1) in
-    record { visits-formula =
-      rw (p .1, p .2)
-      (visits-then (g .V·ClauseVisitor .one (c .args .v .now)) (start-clauses (means (c .args .table .now))) _ _ _ _ _ (c .in-Continue-each-start .ensures tt .visits-starts)
-      (visits-stop (g .V·ClauseVisitor .one (c .args .v .now)) (each (slot-clauses (means (c .args .table .now)) (g .R·SlotRule .parts (c .args .rule .now))) (counting 0 (c .args .horizon))) _ _ _ _ (along-stop (g .V·ClauseVisitor .one (c .args .v .now)) (slot-clauses (means (c .args .table .now)) (g .R·SlotRule .parts (c .args .rule .now))) _ _ _ _ _ _ _ (c .loop-u .inv) (c .loop-u-test .taken) (c .in-Break-each-of-slot .ensures tt .visits-slot)))) }
+    record {
+      visits-formula =
+          rw (p .1, p .2)
+          (visits-then (g .V·ClauseVisitor .one (c .args .v .now)) (start-clauses (means (c .args .table .now))) _ _ _ _ _ (c .in-Continue-each-start .ensures tt .visits-starts)
+          (visits-stop (g .V·ClauseVisitor .one (c .args .v .now)) (each (slot-clauses (means (c .args .table .now)) (g .R·SlotRule .parts (c .args .rule .now))) (counting 0 (c .args .horizon))) _ _ _ _ (along-stop (g .V·ClauseVisitor .one (c .args .v .now)) (slot-clauses (means (c .args .table .now)) (g .R·SlotRule .parts (c .args .rule .now))) _ _ _ _ _ _ _ (c .loop-u .inv) (c .loop-u-test .taken) (c .in-Break-each-of-slot .ensures tt .visits-slot))));
+    }

@@ -25,7 +25,9 @@ returns g c = record { visits-effects = along-end (g .V·ClauseVisitor .one (c .
 pub returns-in-Break-effect-clause : need.returns-in-Break-effect-clause
 returns-in-Break-effect-clause g c =
     let p = err-from-errBy (c .from-residual .result) (c .from-residual .ensures .1) in
-    record { visits-effects =
-      rw (p .1, p .2)
-      (along-stop (g .V·ClauseVisitor .one (c .args .v .now)) (effect-row (means (c .args .table .now)) (c .args .part) (c .args .u)) _ _ _ _ _ _ _ (c .loop-a .inv) (c .loop-a-test .taken)
-      (along-stop (g .V·ClauseVisitor .one (c .args .v .now)) (effect-cell (means (c .args .table .now)) (c .args .part) (c .args .u) (c .loop-a .a)) _ _ _ _ _ _ _ (c .loop-f .inv) (c .loop-f-test .taken) (c .in-Break-effect-clause .ensures tt .visits-effect))) }
+    record {
+      visits-effects =
+          rw (p .1, p .2)
+          (along-stop (g .V·ClauseVisitor .one (c .args .v .now)) (effect-row (means (c .args .table .now)) (c .args .part) (c .args .u)) _ _ _ _ _ _ _ (c .loop-a .inv) (c .loop-a-test .taken)
+          (along-stop (g .V·ClauseVisitor .one (c .args .v .now)) (effect-cell (means (c .args .table .now)) (c .args .part) (c .args .u) (c .loop-a .a)) _ _ _ _ _ _ _ (c .loop-f .inv) (c .loop-f-test .taken) (c .in-Break-effect-clause .ensures tt .visits-effect)));
+    }

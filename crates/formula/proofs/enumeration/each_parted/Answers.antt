@@ -26,7 +26,9 @@ returns g c = record { visits-all-parted = along-end (g .V·ClauseVisitor .one (
 pub returns-in-Break-parted-clause : need.returns-in-Break-parted-clause
 returns-in-Break-parted-clause g c =
     let p = err-from-errBy (c .from-residual .result) (c .from-residual .ensures .1) in
-    record { visits-all-parted =
-      rw (p .1, p .2)
-      (along-stop (g .V·ClauseVisitor .one (c .args .v .now)) (parted-row (means (c .args .table .now)) (g .R·SlotRule .parts (c .args .rule .now)) (c .args .u)) _ _ _ _ _ _ _ (c .loop-a .inv) (c .loop-a-test .taken)
-      (along-stop (g .V·ClauseVisitor .one (c .args .v .now)) (parted-cell (means (c .args .table .now)) (g .R·SlotRule .parts (c .args .rule .now)) (c .args .u) (c .loop-a .a)) _ _ _ _ _ _ _ (c .loop-b .inv) (c .loop-b-test .taken) (c .in-Break-parted-clause .ensures tt .visits-parted))) }
+    record {
+      visits-all-parted =
+          rw (p .1, p .2)
+          (along-stop (g .V·ClauseVisitor .one (c .args .v .now)) (parted-row (means (c .args .table .now)) (g .R·SlotRule .parts (c .args .rule .now)) (c .args .u)) _ _ _ _ _ _ _ (c .loop-a .inv) (c .loop-a-test .taken)
+          (along-stop (g .V·ClauseVisitor .one (c .args .v .now)) (parted-cell (means (c .args .table .now)) (g .R·SlotRule .parts (c .args .rule .now)) (c .args .u) (c .loop-a .a)) _ _ _ _ _ _ _ (c .loop-b .inv) (c .loop-b-test .taken) (c .in-Break-parted-clause .ensures tt .visits-parted)));
+    }

@@ -27,10 +27,10 @@ loop-a-again g c =
     let few = t .few .1 in
     let F = Filled p few (c .args .part) (c .args .u) (c .args .f) (toZ w32 (ofZ w32 (c .args .first)) ∷ toZ w32 (ofZ w32 (c .args .second)) ∷ doers p (c .args .part) (c .args .u) (c .args .f) (steps-of p)) in
     elim (c .if-has .came) [
-      then-has w ↦ let s : SFits w32 (w .aye .result) = search needs in
-        let x = toZ w32 (ofZ w32 (w .aye .result)) in
-        subst (λ (xs : List ℤ). F xs (c .if-has .n) (c .loop-a .a + 1)) (sym (w .clause-is)) (subst (λ (k : ℕ). F (set (c .loop-a .clause) (c .loop-a .n) x) k (c .loop-a .a + 1)) (sym (w .n-is)) (filled-hit p few (c .args .part) (c .args .u) (c .args .f) _ _ _ _ x (c .loop-a .inv) (c .loop-a-test .taken) (sym (c .has .ensures .answers-part) ∙ w .if-has .taken) (word-is _ _ s (w .aye .ensures .positive ∙ ap pos (w .step-variable .ensures .value)))))
-    | else-has w ↦ subst (λ (xs : List ℤ). F xs (c .if-has .n) (c .loop-a .a + 1)) (sym (w .clause-is)) (subst (λ (k : ℕ). F (c .loop-a .clause) k (c .loop-a .a + 1)) (sym (w .n-is)) (filled-miss p few (c .args .part) (c .args .u) (c .args .f) _ _ _ _ (c .loop-a .inv) (c .loop-a-test .taken) (sym (c .has .ensures .answers-part) ∙ w .if-has .left)))
+      | then-has w ↦ let s : SFits w32 (w .aye .result) = search needs in
+          let x = toZ w32 (ofZ w32 (w .aye .result)) in
+          subst (λ (xs : List ℤ). F xs (c .if-has .n) (c .loop-a .a + 1)) (sym (w .clause-is)) (subst (λ (k : ℕ). F (set (c .loop-a .clause) (c .loop-a .n) x) k (c .loop-a .a + 1)) (sym (w .n-is)) (filled-hit p few (c .args .part) (c .args .u) (c .args .f) _ _ _ _ x (c .loop-a .inv) (c .loop-a-test .taken) (sym (c .has .ensures .answers-part) ∙ w .if-has .taken) (word-is _ _ s (w .aye .ensures .positive ∙ ap pos (w .step-variable .ensures .value)))))
+      | else-has w ↦ subst (λ (xs : List ℤ). F xs (c .if-has .n) (c .loop-a .a + 1)) (sym (w .clause-is)) (subst (λ (k : ℕ). F (c .loop-a .clause) k (c .loop-a .a + 1)) (sym (w .n-is)) (filled-miss p few (c .args .part) (c .args .u) (c .args .f) _ _ _ _ (c .loop-a .inv) (c .loop-a-test .taken) (sym (c .has .ensures .answers-part) ∙ w .if-has .left)))
     ]
 
 pub returns : need.returns
@@ -38,9 +38,11 @@ returns g c =
     let t = c .args .table .now in
     let p = means t in
     let all = doers p (c .args .part) (c .args .u) (c .args .f) (steps-of p) in
-    record { visits-frame =
-      visits-one (g .V·ClauseVisitor .one (c .args .v .now)) _ _ _ _ _
-      (filled-end p (t .few .1) (c .args .part) (c .args .u) (c .args .f) _ _ _ _ (c .loop-a .inv) (c .loop-a-test .left)
-      ∙ ap (λ z. z ∷ toZ w32 (ofZ w32 (c .args .second)) ∷ all) (toZ-ofZ w32 (c .args .first) (c .fits .first))
-      ∙ ap (λ z. c .args .first ∷ z ∷ all) (toZ-ofZ w32 (c .args .second) (c .fits .second)))
-      (c .visit .ensures .does-one) }
+    record {
+      visits-frame =
+          visits-one (g .V·ClauseVisitor .one (c .args .v .now)) _ _ _ _ _
+          (filled-end p (t .few .1) (c .args .part) (c .args .u) (c .args .f) _ _ _ _ (c .loop-a .inv) (c .loop-a-test .left)
+          ∙ ap (λ z. z ∷ toZ w32 (ofZ w32 (c .args .second)) ∷ all) (toZ-ofZ w32 (c .args .first) (c .fits .first))
+          ∙ ap (λ z. c .args .first ∷ z ∷ all) (toZ-ofZ w32 (c .args .second) (c .fits .second)))
+          (c .visit .ensures .does-one);
+    }

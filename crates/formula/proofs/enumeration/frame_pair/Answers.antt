@@ -30,7 +30,9 @@ returns g c =
     let next : c .fact-variable-after .result ≡ fact-var p (suc u) f = c .fact-variable-after .ensures .value ∙ ap (λ n. fact-var p n f) (add-one u) in
     let is = heads-is _ _ _ _ (doers p Sets u f (steps-of p)) (word-is _ _ s (c .aye .ensures .positive ∙ ap pos here)) (word-is _ _ t (c .nay .ensures .negative ∙ ap (λ n. negℤ (pos n)) next)) in
     let js = heads-is _ _ _ _ (doers p Clears u f (steps-of p)) (word-is _ _ x (c .nay-2 .ensures .negative ∙ ap (λ n. negℤ (pos n)) here)) (word-is _ _ y (c .aye-2 .ensures .positive ∙ ap pos next)) in
-    record { visits-pair =
-      visits-then one (comes p u f ∷ []) (goes p u f ∷ []) (c .args .state .now) (c .frame-clause .last .state) _ _
-      (visits-as one _ _ _ _ (Ok tt) is (c .in-Continue-frame-clause .ensures tt .visits-frame))
-      (visits-as one _ _ _ _ _ js (c .frame-clause-2 .ensures .visits-frame)) }
+    record {
+      visits-pair =
+          visits-then one (comes p u f ∷ []) (goes p u f ∷ []) (c .args .state .now) (c .frame-clause .last .state) _ _
+          (visits-as one _ _ _ _ (Ok tt) is (c .in-Continue-frame-clause .ensures tt .visits-frame))
+          (visits-as one _ _ _ _ _ js (c .frame-clause-2 .ensures .visits-frame));
+    }

@@ -58,7 +58,7 @@ loop-i-again c =
     let l : c .args .self .now .used + i < length (now (c .loop-i .self .words)) = omega (arith, c .loop-i .inv .0) in
     let b : c .args .self .now .used + i < c .args .self .now .used + length xs + 1 = omega arith in (
       length-set _ _ _ ∙ c .loop-i .inv .0,
-      put-step (now (c .args .self .now .words)) (now (c .loop-i .self .words)) xs (c .args .self .now .used) i _ (c .loop-i .inv .1) l (c .loop-i-test .taken) (toZ-ofZ w32 (getD xs i (pos 0)) f),
+      put-step (now (c .args .self .now .words)) (now (c .loop-i .self .words)) xs (c .args .self .now .used) i (pos 0) _ (c .loop-i .inv .1) l (c .loop-i-test .taken) (toZ-ofZ w32 (getD xs i (pos 0)) f),
       drop-set-lt _ (now (c .loop-i .self .words)) _ _ b ∙ c .loop-i .inv .2,
       c .loop-i .inv .3,
       c .loop-i .inv .4,
@@ -78,7 +78,7 @@ written : (used : ℕ) (ws xs rs : List ℤ) → ends true (take used ws) ≡ tr
 written used ws xs rs closed holds ok =
     ap parse holds
     ∙ parse-app true (take used ws) (xs ++ (pos 0 ∷ [])) closed .0
-    ∙ ap (λ cs. parse (take used ws) ++ cs) (parse-clause 4096 xs (or-parts (ltb 130 (length xs)) (any (bad-literal 4096) xs) ok .1))
+    ∙ ap (λ cs. parse (take used ws) ++ cs) (parse-clause 4096 xs [] (or-parts (ltb 130 (length xs)) (any (bad-literal 4096) xs) ok .1))
 
 pub ghost-self-2 : need.ghost-self-2
 ghost-self-2 c =
