@@ -4,6 +4,7 @@ ghost use mathlib.Core.Bool.{true};
 ghost use mathlib.Core.List.{List};
 ghost use Prim.Native.Nat.{ℕ, _+_, _-_, _*_, _≤_};
 ghost use base.Fml.{GName};
+ghost use lib.IntN.{ℤ};
 ghost use lib.ListN.{length};
 ghost use Rattle.rules.specs.Clauses.{Clause, bad-clause, total};
 ghost use Rattle.clauses.specs.Judged.{judged, held-after, free-after};
@@ -12,9 +13,6 @@ use rules::Refusal;
 
 // A sink is a source that also takes clauses. It means, besides, a capacity and a cost for each clause.
 pub trait Sink: Source {
-    // What its memory is made of.
-    type Cell;
-
     ghost capacity: { Self → ℕ };
 
     // The cost depends on the clause alone.
@@ -22,8 +20,8 @@ pub trait Sink: Source {
 
     ghost cheap: { (c : Clause) → cost c ≤ 8 * length c + 2 };
 
-    // The memory past what is held.
-    ghost free: { Self → List Self·Cell };
+    // The memory past what is held, as numbers.
+    ghost free: { Self → List ℤ };
 
     // The name of the memory that the sink borrows: kept, so that the lender learns what was written.
     ghost lent: { Self → GName };

@@ -6,4 +6,5 @@ pub mod Clauses
 pub mod Formula
 pub mod Sheets
 pub mod Refusals
+pub mod Checks
 pub mod Laws

@@ -65,8 +65,6 @@ pub impl<'a> Source for WordSink<'a> as WordSinkSource {
 }
 
 pub impl<'a> Sink for WordSink<'a> as WordSinkSink {
-    type Cell = i32;
-
     ghost capacity = { λ s. length (now (s .words)) };
 
     ghost cost = { word-cost };

@@ -1,0 +1,4 @@
+// From problems to clauses in a sink.
+mod encoding;
+
+pub use encoding::encode;
