@@ -3,12 +3,14 @@ mod check;
 mod scan;
 mod sink;
 mod source;
+#[cfg(test)]
+mod tests;
 mod words;
 
 pub use check::bad_clause;
 pub use sink::Sink;
 pub use source::Source;
 pub use words::WordSink;
-pub use words::calls::WordSinkSink;
-pub use words::calls::WordSinkSource;
-pub use words::calls::word_sink;
+pub use words::asking::WordSinkSource;
+pub use words::lending::word_sink;
+pub use words::taking::WordSinkSink;

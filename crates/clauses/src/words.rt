@@ -8,7 +8,9 @@ ghost use Rattle.rules.specs.Clauses.{bad-clause};
 ghost use Rattle.rules.specs.Lists.{any};
 ghost use Rattle.clauses.specs.Rows.{parse, ends};
 
-pub mod calls;
+pub mod asking;
+pub mod lending;
+pub mod taking;
 
 // The first `used` words stand for clauses, of which there are `count`.
 #[derive(Drop)]

@@ -1,0 +1,3 @@
+pub mod Scanning
+pub mod Rendering
+pub mod Written

@@ -1,0 +1,4 @@
+pub mod Lines
+pub mod Scan
+pub mod Bounds
+pub mod Words

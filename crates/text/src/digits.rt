@@ -1,0 +1,87 @@
+// Literals as text: how long they are, and their digits.
+ghost use mathlib.Core.Path.{_≡_};
+ghost use mathlib.Core.Bool.{false};
+ghost use mathlib.Core.List.{[], _∷_, _++_};
+ghost use Prim.Native.Nat.{_+_, _<_, _≤_};
+ghost use lib.ListN.{length, drop};
+ghost use Rattle.std.specs.Written.{decimal};
+ghost use Rattle.rules.specs.Clauses.{bad-literal, bad-clause};
+ghost use Rattle.text.specs.Lines.{literal-text, line-text};
+
+// How many digits a number has.
+fn digit_count(n: u32) -> usize
+    requires { ⌜ n < 1000000 ⌝ }
+    ensures counts_digits { λ r. ⌜ r ≡ length (decimal n) ⌝ }
+{
+    if n < 10 {
+        1
+    } else if n < 100 {
+        2
+    } else if n < 1_000 {
+        3
+    } else if n < 10_000 {
+        4
+    } else if n < 100_000 {
+        5
+    } else {
+        6
+    }
+}
+
+// The bytes of a literal and its space.
+fn literal_cost(l: i32) -> usize
+    requires { ⌜ bad-literal 999999 l ≡ false ⌝ }
+    ensures counts_bytes { λ r. ⌜ r ≡ length (literal-text l) ⌝ }
+{
+    let digits = digit_count(l.unsigned_abs());
+    if l < 0 { digits + 2 } else { digits + 1 }
+}
+
+// The bytes of a clause's line.
+pub fn line_cost(clause: &[i32]) -> usize
+    requires { ⌜ bad-clause 999999 (now clause) ≡ false ⌝ }
+    ensures counts_line { λ r. ⌜ r ≡ length (line-text (now (clause .entry))) ⌝ }
+{
+    let mut cost = 2;
+    for i in 0..clause.len() {
+        cost += literal_cost(clause[i]);
+    }
+    cost
+}
+
+// Writes n and a space at the end of the bytes, and says where it begins.
+fn put_decimal(out: &mut [u8], n: u32) -> usize
+    requires { ⌜ 8 ≤ length (now out) ⌝ }
+    requires { ⌜ n < 1000000 ⌝ }
+    ensures begins { λ r. ⌜ r + length (decimal n) + 1 ≡ length (now (out .exit)) ⌝ }
+    ensures writes_number { λ r. ⌜ drop r (now (out .exit)) ≡ decimal n ++ (32 ∷ []) ⌝ }
+{
+    let last = out.len() - 1;
+    out[last] = b' ';
+    let mut at = last - 1;
+    let mut left = n;
+    out[at] = b'0' + (left % 10) as u8;
+    while left >= 10 {
+        left /= 10;
+        at -= 1;
+        out[at] = b'0' + (left % 10) as u8;
+    }
+    at
+}
+
+// Writes a literal and a space at the end of the bytes, and says where it begins.
+pub fn put_literal(out: &mut [u8], l: i32) -> usize
+    requires { ⌜ 8 ≤ length (now out) ⌝ }
+    requires { ⌜ bad-literal 999999 l ≡ false ⌝ }
+    ensures begins { λ r. ⌜ r ≤ length (now (out .exit)) ⌝ }
+    ensures writes_literal { λ r. ⌜ drop r (now (out .exit)) ≡ literal-text l ⌝ }
+{
+    let at = put_decimal(out, l.unsigned_abs());
+    if l < 0 {
+        let before = at - 1;
+        out[before] = b'-';
+        before
+    } else {
+        at
+    }
+}
