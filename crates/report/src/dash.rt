@@ -26,7 +26,7 @@ pub const STEPS: [&str; 8] = [
 ];
 
 // Pairs of code and fact. Code 0 is the start and 1 the goals; for step a, 4a what it needs, 4a + 1 what it sets, 4a + 2 what it clears.
-const PAIRS: [(u16, u16); 34] = [
+const PAIRS: [(u16, u16); 37] = [
     (0, 4),
     (0, 7),
     (0, 8),
@@ -53,6 +53,7 @@ const PAIRS: [(u16, u16); 34] = [
     (20, 3),
     (20, 5),
     (21, 6),
+    (24, 3),
     (24, 6),
     (25, 9),
     (26, 3),
@@ -60,7 +61,9 @@ const PAIRS: [(u16, u16); 34] = [
     (29, 8),
     (30, 2),
     (32, 6),
+    (32, 8),
     (33, 7),
+    (34, 1),
 ];
 
 fn push_number(bytes: &mut Vec<u8>, n: u16) -> Result<(), AllocError> {
@@ -75,7 +78,7 @@ pub fn problem_bytes(heap: Global) -> Result<Vec<u8>, AllocError> {
     let mut bytes = Vec::new(heap);
     push_number(&mut bytes, 9)?;
     push_number(&mut bytes, 8)?;
-    push_number(&mut bytes, 34)?;
+    push_number(&mut bytes, 37)?;
     for (code, _) in PAIRS {
         push_number(&mut bytes, code)?;
     }

@@ -90,18 +90,27 @@ fn print_sizes(rt: &LibcRuntime, problem: &Problem) -> Result<(), AnyError> {
     Ok(())
 }
 
-// The formula into so many words.
-fn print_words(rt: &LibcRuntime, problem: &Problem, words: &mut [i32]) -> Result<(), AnyError> {
+// The formula into so many words: how many it used, or nothing where it was refused.
+fn print_words(rt: &LibcRuntime, problem: &Problem, words: &mut [i32]) -> Result<usize, AnyError> {
     let given = words.len();
     println!(rt, "Into {given} words:")?;
     let mut sink = word_sink(words);
-    match encode(problem, SLOTS, &Parallel, &mut sink) {
-        Ok(()) => {
-            let (used, count) = (sink.used(), sink.clause_count());
-            println!(rt, "  granted, {count} clauses in {used} words")?;
-        }
-        Err(refusal) => print_refusal(rt, refusal)?,
+    if let Err(refusal) = encode(problem, SLOTS, &Parallel, &mut sink) {
+        print_refusal(rt, refusal)?;
+        return Ok(0);
     }
+    let (used, count) = (sink.used(), sink.clause_count());
+    println!(rt, "  granted, {count} clauses in {used} words")?;
+    Ok(used)
+}
+
+// The same into as many words as it takes, and into one word less.
+fn print_exact(rt: &LibcRuntime, problem: &Problem, words: &mut [i32], used: usize) -> Result<(), AnyError> {
+    if used == 0 || used > words.len() {
+        return Ok(());
+    }
+    print_words(rt, problem, &mut words[..used])?;
+    print_words(rt, problem, &mut words[..used - 1])?;
     Ok(())
 }
 
@@ -132,7 +141,8 @@ fn main(rt: LibcRuntime) -> Result<(), AnyError> {
     print_steps(&rt, &problem)?;
     print_sizes(&rt, &problem)?;
     let mut words = vec![in heap; 0i32; 4096]?;
-    print_words(&rt, &problem, &mut words)?;
+    let used = print_words(&rt, &problem, &mut words)?;
+    print_exact(&rt, &problem, &mut words, used)?;
     let mut text = vec![in heap; 0u8; 65536]?;
     print_text(&rt, &problem, &mut text)
 }
