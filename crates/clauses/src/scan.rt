@@ -5,7 +5,7 @@ ghost use Rattle.clauses.specs.Asked.{at0, length-of};
 ghost use Rattle.clauses.specs.Rows.{parse, Begins, literal0};
 
 // Where clause n begins, counted from 1.
-pub fn start(words: &[i32], n: usize) -> Option<usize>
+pub(crate) fn start(words: &[i32], n: usize) -> Option<usize>
     ensures finds_start { λ r. ⌜ Begins (now (words .entry)) n r ⌝ }
 {
     if n == 0 {
@@ -24,7 +24,7 @@ pub fn start(words: &[i32], n: usize) -> Option<usize>
 }
 
 // The length of the clause that begins at `from`.
-pub fn run(words: &[i32], from: usize) -> Option<usize>
+pub(crate) fn run(words: &[i32], from: usize) -> Option<usize>
     ensures measures_clause { λ r. ⌜ r ≡ length-of (at0 (parse (drop from (now (words .entry)))) 0) ⌝ }
 {
     for i in from..words.len() {
@@ -36,7 +36,7 @@ pub fn run(words: &[i32], from: usize) -> Option<usize>
 }
 
 // Literal k, counted from 0, of the clause that begins at `from`.
-pub fn pick(words: &[i32], from: usize, k: usize) -> Option<i32>
+pub(crate) fn pick(words: &[i32], from: usize, k: usize) -> Option<i32>
     ensures picks_literal { λ r. ⌜ r ≡ literal0 (at0 (parse (drop from (now (words .entry)))) 0) k ⌝ }
 {
     match run(words, from) {

@@ -8,7 +8,6 @@ ghost use Rattle.text.specs.Lines.{text-cost};
 ghost use Rattle.requests.specs.Written.{rule-of};
 ghost use Rattle.requests.specs.Lent.{words-after, text-after};
 ghost use Rattle.foreign.specs.Told.{told-of, call-verdict, Called};
-
 use problem::Problem;
 use problem::read_problem;
 use requests::encode_text;
@@ -30,7 +29,12 @@ fn told(answer: Result<usize, Refusal>) -> i64
     }
 }
 
-fn words_by_number(problem: &[u8], horizon: u16, rule: u16, words: &mut [i32]) -> Result<usize, Refusal>
+fn words_by_number(
+    problem: &[u8],
+    horizon: u16,
+    rule: u16,
+    words: &mut [i32],
+) -> Result<usize, Refusal>
     ensures refuses_in_order { λ r. ⌜ answer r ≡ call-verdict (now (problem .entry)) horizon rule 4096 (length (now (words .entry))) word-cost ⌝ }
     ensures whole_memory { λ r. ⌜ words-after (problem-of (now (problem .entry))) (rule-of rule) horizon (now (words .entry)) r (now (words .exit)) ⌝ }
 {
@@ -43,7 +47,12 @@ fn words_by_number(problem: &[u8], horizon: u16, rule: u16, words: &mut [i32]) -
     }
 }
 
-fn text_by_number(problem: &[u8], horizon: u16, rule: u16, text: &mut [u8]) -> Result<usize, Refusal>
+fn text_by_number(
+    problem: &[u8],
+    horizon: u16,
+    rule: u16,
+    text: &mut [u8],
+) -> Result<usize, Refusal>
     ensures refuses_in_order { λ r. ⌜ answer r ≡ call-verdict (now (problem .entry)) horizon rule 999999 (length (now (text .entry))) text-cost ⌝ }
     ensures whole_memory { λ r. ⌜ text-after (problem-of (now (problem .entry))) (rule-of rule) horizon (now (text .entry)) r (now (text .exit)) ⌝ }
 {
@@ -58,7 +67,12 @@ fn text_by_number(problem: &[u8], horizon: u16, rule: u16, text: &mut [u8]) -> R
 
 // The problem's formula into words.
 #[unsafe(no_mangle)]
-pub extern "C" fn cabinmedlar_encode_words(problem: &[u8], horizon: u16, rule: u16, words: &mut [i32]) -> i64
+pub extern "C" fn cabinmedlar_encode_words(
+    problem: &[u8],
+    horizon: u16,
+    rule: u16,
+    words: &mut [i32],
+) -> i64
     ensures tells_the_call { λ r. ⌜ Called (call-verdict (now (problem .entry)) horizon rule 4096 (length (now (words .entry))) word-cost) (words-after (problem-of (now (problem .entry))) (rule-of rule) horizon (now (words .entry))) (now (words .exit)) r ⌝ }
 {
     told(words_by_number(problem, horizon, rule, words))
@@ -66,7 +80,12 @@ pub extern "C" fn cabinmedlar_encode_words(problem: &[u8], horizon: u16, rule: u
 
 // The problem's formula into clause lines.
 #[unsafe(no_mangle)]
-pub extern "C" fn cabinmedlar_encode_text(problem: &[u8], horizon: u16, rule: u16, text: &mut [u8]) -> i64
+pub extern "C" fn cabinmedlar_encode_text(
+    problem: &[u8],
+    horizon: u16,
+    rule: u16,
+    text: &mut [u8],
+) -> i64
     ensures tells_the_call { λ r. ⌜ Called (call-verdict (now (problem .entry)) horizon rule 999999 (length (now (text .entry))) text-cost) (text-after (problem-of (now (problem .entry))) (rule-of rule) horizon (now (text .entry))) (now (text .exit)) r ⌝ }
 {
     told(text_by_number(problem, horizon, rule, text))

@@ -105,7 +105,12 @@ fn print_words(rt: &LibcRuntime, problem: &Problem, words: &mut [i32]) -> Result
 }
 
 // The same into as many words as it takes, and into one word less.
-fn print_exact(rt: &LibcRuntime, problem: &Problem, words: &mut [i32], used: usize) -> Result<(), AnyError> {
+fn print_exact(
+    rt: &LibcRuntime,
+    problem: &Problem,
+    words: &mut [i32],
+    used: usize,
+) -> Result<(), AnyError> {
     if used == 0 || used > words.len() {
         return Ok(());
     }

@@ -35,10 +35,10 @@ after-grant text before after used cost within is rest long =
     let n : used ≡ length text = sym (length-take-le used after within) ∙ ap length is in
     let short : length before - used ≡ length before - cost = omega (arith, ap length rest, length-drop used after, length-drop cost before) in
     let same : drop cost before ≡ drop used before =
-      ⊎-elim
-      (λ (l : cost < length before + 1). let e : cost ≡ used = omega arith in ap (λ k. drop k before) e)
-      (λ (l : length before + 1 ≤ cost). drop-all cost before (omega arith) ∙ sym (drop-all used before (omega arith)))
-      (cases-lt cost (length before + 1)) in
+    ⊎-elim
+    (λ (l : cost < length before + 1). let e : cost ≡ used = omega arith in ap (λ k. drop k before) e)
+    (λ (l : length before + 1 ≤ cost). drop-all cost before (omega arith) ∙ sym (drop-all used before (omega arith)))
+    (cases-lt cost (length before + 1)) in
     (n, sym (take-append-drop used after) ∙ ap (λ xs. xs ++ drop used after) is ∙ ap (λ xs. text ++ xs) (rest ∙ same))
 
 pub after-refusal : {X : Type 0} (before after : List X) (used : ℕ) → drop used after ≡ before → length after ≡ length before → after ≡ before

@@ -9,7 +9,6 @@ ghost use Rattle.clauses.specs.Rows.{word-cost};
 ghost use Rattle.text.specs.Lines.{text-cost};
 ghost use Rattle.planner.specs.Encoded.{encode-checks};
 ghost use Rattle.requests.specs.Lent.{words-after, text-after};
-
 use clauses::Sink;
 use clauses::Source;
 use clauses::WordSinkSink;
@@ -24,7 +23,12 @@ use text::TextSinkSource;
 use text::text_sink;
 
 // The formula in words; answers how many it took.
-pub fn encode_words<R: SlotRule>(problem: &Problem, horizon: usize, rule: &R, words: &mut [i32]) -> Result<usize, Refusal>
+pub fn encode_words<R: SlotRule>(
+    problem: &Problem,
+    horizon: usize,
+    rule: &R,
+    words: &mut [i32],
+) -> Result<usize, Refusal>
     ensures refuses_in_order { λ r. ⌜ answer r ≡ first-refusal (encode-checks (problem-of (now (now (problem .entry) .bytes))) (R·SlotRule .parts (now (rule .entry))) horizon [] 4096 (length (now (words .entry))) word-cost) ⌝ }
     ensures whole_memory { λ r. ⌜ words-after (problem-of (now (now (problem .entry) .bytes))) (R·SlotRule .parts (now (rule .entry))) horizon (now (words .entry)) r (now (words .exit)) ⌝ }
 {
@@ -34,7 +38,12 @@ pub fn encode_words<R: SlotRule>(problem: &Problem, horizon: usize, rule: &R, wo
 }
 
 // The formula as clause lines; answers how many bytes they took.
-pub fn encode_text<R: SlotRule>(problem: &Problem, horizon: usize, rule: &R, bytes: &mut [u8]) -> Result<usize, Refusal>
+pub fn encode_text<R: SlotRule>(
+    problem: &Problem,
+    horizon: usize,
+    rule: &R,
+    bytes: &mut [u8],
+) -> Result<usize, Refusal>
     ensures refuses_in_order { λ r. ⌜ answer r ≡ first-refusal (encode-checks (problem-of (now (now (problem .entry) .bytes))) (R·SlotRule .parts (now (rule .entry))) horizon [] 999999 (length (now (bytes .entry))) text-cost) ⌝ }
     ensures whole_memory { λ r. ⌜ text-after (problem-of (now (now (problem .entry) .bytes))) (R·SlotRule .parts (now (rule .entry))) horizon (now (bytes .entry)) r (now (bytes .exit)) ⌝ }
 {

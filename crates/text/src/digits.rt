@@ -38,7 +38,7 @@ fn literal_cost(l: i32) -> usize
 }
 
 // The bytes of a clause's line.
-pub fn line_cost(clause: &[i32]) -> usize
+pub(crate) fn line_cost(clause: &[i32]) -> usize
     requires { ⌜ bad-clause 999999 (now clause) ≡ false ⌝ }
     ensures counts_line { λ r. ⌜ r ≡ length (line-text (now (clause .entry))) ⌝ }
 {
@@ -70,7 +70,7 @@ fn put_decimal(out: &mut [u8], n: u32) -> usize
 }
 
 // Writes a literal and a space at the end of the bytes, and says where it begins.
-pub fn put_literal(out: &mut [u8], l: i32) -> usize
+pub(crate) fn put_literal(out: &mut [u8], l: i32) -> usize
     requires { ⌜ 8 ≤ length (now out) ⌝ }
     requires { ⌜ bad-literal 999999 l ≡ false ⌝ }
     ensures begins { λ r. ⌜ r ≤ length (now (out .exit)) ⌝ }

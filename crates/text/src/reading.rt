@@ -24,7 +24,7 @@ fn with_sign(minus: bool, size: u32) -> i32
 }
 
 // The number that begins at a place, and the place after the blank that ends it.
-pub fn word_from(text: &[u8], place: usize) -> Option<(i32, usize)>
+pub(crate) fn word_from(text: &[u8], place: usize) -> Option<(i32, usize)>
     ensures reads_number { λ r. ⌜ Next (now (text .entry)) place r ⌝ }
 {
     let mut minus = false;
@@ -45,7 +45,7 @@ pub fn word_from(text: &[u8], place: usize) -> Option<(i32, usize)>
 }
 
 // Where clause n begins, counted from 1.
-pub fn start(text: &[u8], n: usize) -> Option<usize>
+pub(crate) fn start(text: &[u8], n: usize) -> Option<usize>
     ensures finds_start { λ r. ⌜ Found (now (text .entry)) n r ⌝ }
 {
     if n == 0 {
@@ -68,7 +68,7 @@ pub fn start(text: &[u8], n: usize) -> Option<usize>
 }
 
 // The length of the clause that begins at a place.
-pub fn run(text: &[u8], from: usize) -> Option<usize>
+pub(crate) fn run(text: &[u8], from: usize) -> Option<usize>
     ensures measures_clause { λ r. ⌜ r ≡ length-of (at0 (parse (numbers (drop from (now (text .entry))))) 0) ⌝ }
 {
     let mut n = 0;
@@ -84,7 +84,7 @@ pub fn run(text: &[u8], from: usize) -> Option<usize>
 }
 
 // Literal k, counted from 0, of the clause that begins at a place.
-pub fn pick(text: &[u8], from: usize, k: usize) -> Option<i32>
+pub(crate) fn pick(text: &[u8], from: usize, k: usize) -> Option<i32>
     requires { ⌜ Shut (now text) ⌝ }
     ensures picks_literal { λ r. ⌜ r ≡ literal0 (at0 (parse (numbers (drop from (now (text .entry))))) 0) k ⌝ }
 {
