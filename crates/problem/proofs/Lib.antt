@@ -5,3 +5,4 @@ pub mod Unders
 pub mod Collecting
 pub mod Stated
 pub mod Rendered
+pub mod Bytewise

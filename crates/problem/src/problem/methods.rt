@@ -5,6 +5,7 @@ ghost use Rattle.rules.specs.Refusals.{answer};
 ghost use Rattle.problem.specs.Bytes.{facts as factsOf, steps as stepsOf, pairs as pairsOf, fresh};
 ghost use Rattle.problem.specs.Listed.{problem-of};
 ghost use Rattle.problem.specs.Verdict.{verdict};
+ghost use Rattle.problem.specs.Rendering.{Renders};
 ghost use Rattle.problem.specs.Tables.{means, Step-asked};
 use crate::problem::Problem;
 use crate::reading::judge;
@@ -16,6 +17,7 @@ use steps::StepRecord;
 // Reads a problem from its bytes, or says which rule they break first. Refused, the problem stays as it was.
 pub fn read_problem<'a>(problem: &mut Problem<'a>, bytes: &'a [u8]) -> Result<(), Refusal>
     ensures first_broken_rule { λ r. ⌜ answer r ≡ verdict (now (bytes .entry)) ⌝ }
+    ensures grants_exactly_renderings { λ r. ⌜ Cases r (λ _. Renders (now (bytes .entry))) (λ _. Renders (now (bytes .entry)) → ⊥) ⌝ }
     ensures filled_or_kept { λ r. ⌜ Cases r (λ _. now (now (problem .exit) .bytes) ≡ now (bytes .entry)) (λ _. now (problem .exit) ≡ now (problem .entry)) ⌝ }
 {
     judge(bytes)?;
