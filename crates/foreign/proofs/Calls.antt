@@ -17,12 +17,6 @@ use Rattle.planner.specs.Encoded.{encode-checks}
 use Rattle.requests.specs.Written.{rule-of}
 use Rattle.foreign.specs.Told.{call-verdict}
 
-pub rule-1 : (n : ℕ) → n ≡ 1 → single ≡ rule-of n
-rule-1 n e = sym (cond-true (eqb n 1) single parallel (eq-eqb n 1 e))
-
-pub rule-2 : (n : ℕ) → n ≡ 2 → parallel ≡ rule-of n
-rule-2 n e = sym (cond-false (eqb n 1) single parallel (ne-eqb n 1 (λ z. let w : _≡_ {A = ℕ} 2 1 = sym e ∙ z in omega arith)))
-
 module _ (s bytes : List ℕ) (rule : Rule) (n : ℕ) (b : bytes ≡ s) (r : rule ≡ rule-of n) where
   pub called : (t widest given : ℕ) (cost : Clause → ℕ) (ans : ℕ) → 0 ≡ verdict s → (n ≡ 1) ⊎ (n ≡ 2) → ans ≡ first-refusal (encode-checks (problem-of bytes) rule t [] widest given cost) → ans ≡ call-verdict s t n widest given cost
   called t widest given cost ans v k e =

@@ -23,7 +23,8 @@ use Rattle.formula.specs.declared.tally.Tally.{Tally}
 use Rattle.formula.specs.Visits.{Visits, Stops}
 use Rattle.formula.specs.Sizes.{Counted}
 
-no-stop : (r : Result Unit Infallible) → Stops r → ⊥
+-- what never stops does not stop
+pub no-stop : (r : Result Unit Infallible) → Stops r → ⊥
 no-stop (Ok u) s = s
 no-stop (Err e) s = elim e [ ]
 

@@ -18,22 +18,13 @@ use Rattle.rules.specs.declared.refusal.Refusal.{Refusal}
 use Rattle.rules.specs.Clauses.{Clause, total, bad-clause}
 use Rattle.clauses.specs.Judged.{judged, held-after, free-after}
 use Rattle.formula.specs.Visits.{Visits, Stops}
+use Rattle.formula.proofs.Totals.{total-append}
 use Rattle.planner.specs.Steps.{Added, Kept}
-
-never : {P : Type 0} → _≡_ {A = ℕ} 0 1 → P
-never e = absurd (omega arith)
-
-pub total-append : (w : Clause → ℕ) (xs ys : List Clause) → total w (xs ++ ys) ≡ total w xs + total w ys
-total-append w [] ys = omega arith
-total-append w (x ∷ xs) ys = omega (arith, total-append w xs ys)
 
 judged-ok : (widest left price : ℕ) (c : Clause) → bad-clause widest c ≡ false → price ≤ left → judged widest left price c ≡ Ok tt
 judged-ok widest left price c good fits = cond-false (bad-clause widest c) _ _ good ∙ cond-false (ltb left price) _ _ (le-ltb left price fits)
 
 module _ {S : Type 0} (held : S → List Clause) (widest capacity : S → ℕ) (cost : Clause → ℕ) (free : S → List ℤ) (lent : S → GName) where
-  one : S → Clause → Result Unit Refusal → S → Type 0
-  one a c r b = Added held widest capacity cost free lent a c r b
-
   -- what a run that adds all the clauses leaves
   pub record All-added (a : S) (cs : List Clause) (r : Result Unit Refusal) (b : S) : Type 0 where
     pub grants : r ≡ Ok tt

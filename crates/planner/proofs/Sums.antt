@@ -13,13 +13,9 @@ use Rattle.rules.specs.Steps.{Rule}
 use Rattle.rules.specs.Problems.{Problem}
 use Rattle.rules.specs.Clauses.{Clause, total, literals}
 use Rattle.rules.specs.Formula.{start-clauses, slot-clauses, goal-clauses, formula}
-use Rattle.formula.specs.Visits.{Visits, Stops}
-use Rattle.formula.proofs.Totals.{formula-total, length-total, few-slot, few-starts, few-goals}
+use Rattle.formula.specs.Visits.{Visits}
+use Rattle.formula.proofs.Totals.{no-stop, formula-total, length-total, few-slot, few-starts, few-goals}
 use Rattle.planner.specs.Steps.{Costed}
-
-no-stop : (r : Result Unit Infallible) → Stops r → ⊥
-no-stop (Ok u) s = s
-no-stop (Err e) s = elim e [ ]
 
 pub costed : (cost : Clause → ℕ) (cs : List Clause) (a b : ℕ) (r : Result Unit Infallible) → Visits (λ a c r b. Costed cost a c b) a cs r b → a + total cost cs < 2 ^ 64 → b ≡ a + total cost cs
 costed cost [] a b r h k = omega (arith, h .1)

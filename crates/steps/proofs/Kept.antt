@@ -13,11 +13,6 @@ use Rattle.rules.specs.Lists.{any, has, shares}
 use Rattle.steps.specs.declared.fact_set.FactSet.{FactSet}
 use Rattle.steps.specs.Sets.{bit, facts-in}
 
-pub same : (a b : Bool) → (a ≡ true → b ≡ true) → (b ≡ true → a ≡ true) → a ≡ b
-same true b f g = sym (f refl)
-same false true f g = g refl
-same false false f g = refl
-
 -- below the range nothing stands
 has-low : (p : ℕ → Bool) (a n f : ℕ) → f < a → has f (kept-by p (counting a n)) ≡ false
 has-low p a zero f h = refl

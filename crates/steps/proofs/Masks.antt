@@ -13,7 +13,8 @@ use Rattle.std.proofs.shelf.Tests.{cases-bool, cases-eq, cases-lt, eq-eqb, ne-e
 use Rattle.rules.specs.Lists.{any, has, shares}
 use Rattle.steps.specs.declared.fact_set.FactSet.{FactSet}
 use Rattle.steps.specs.Sets.{bit, facts-in}
-use Rattle.steps.proofs.Kept.{same, has-bit, has-no-bit}
+use Rattle.rules.proofs.Tests.{same}
+use Rattle.steps.proofs.Kept.{has-bit, has-no-bit}
 
 -- bit by bit
 pub and-bit : (a b k : ℕ) → bitAnd a b / 2 ^ k % 2 ≡ min (a / 2 ^ k % 2) (b / 2 ^ k % 2)
