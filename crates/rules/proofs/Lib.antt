@@ -9,3 +9,7 @@ pub mod Models
 pub mod Rules
 pub mod Serial
 pub mod Counting
+pub mod Deciding
+pub mod Outcomes
+pub mod Confluence
+pub mod Entailment

@@ -8,3 +8,4 @@ pub mod Sheets
 pub mod Refusals
 pub mod Checks
 pub mod Laws
+pub mod Propagation
