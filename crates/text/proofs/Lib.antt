@@ -1,3 +1,4 @@
 pub mod Scanning
 pub mod Rendering
 pub mod Written
+pub mod Places

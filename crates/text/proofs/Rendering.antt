@@ -78,10 +78,6 @@ drop-later xs ys n k e l =
     let m : n + (k - n) ≡ k = omega arith in
     ap (λ j. drop j xs) (sym m) ∙ sym (drop-drop (k - n) n xs) ∙ ap (drop (k - n)) e ∙ drop-drop (k - n) n ys ∙ ap (λ j. drop j ys) m
 
--- what the buffer holds from r on
-pub piece : (r : ℕ) (out : List ℕ) (l z : ℤ) → length out ≡ 8 → drop r out ≡ literal-text z → z ≡ l → take (8 - r) (drop r out) ≡ literal-text l
-piece r out l z long e same = take-all (8 - r) (drop r out) (omega (arith, length-drop r out)) ∙ e ∙ ap literal-text same
-
 pub room-here : (used : ℕ) (c : Clause) (i size : ℕ) → i < length c → used + length (line-text c) ≤ size → used + length (each literal-text (take i c)) + length (literal-text (getD c i (pos 0))) ≤ size
 room-here used c i size h l =
     omega (

@@ -9,7 +9,7 @@ ghost use Rattle.rules.specs.Clauses.{bad-literal, bad-clause};
 ghost use Rattle.text.specs.Lines.{literal-text, line-text};
 
 // How many digits a number has.
-fn digit_count(n: u32) -> usize
+pub(crate) fn digit_count(n: u32) -> usize
     requires { ⌜ n < 1000000 ⌝ }
     ensures counts_digits { λ r. ⌜ r ≡ length (decimal n) ⌝ }
 {
@@ -41,41 +41,4 @@ pub(crate) fn line_cost(clause: &[i32]) -> usize
         cost += literal_cost(clause[i]);
     }
     cost
-}
-
-// Writes n and a space at the end of the bytes, and says where it begins.
-fn put_decimal(out: &mut [u8], n: u32) -> usize
-    requires { ⌜ 8 ≤ length (now out) ⌝ }
-    requires { ⌜ n < 1000000 ⌝ }
-    ensures begins { λ r. ⌜ r + length (decimal n) + 1 ≡ length (now (out .exit)) ⌝ }
-    ensures writes_number { λ r. ⌜ drop r (now (out .exit)) ≡ decimal n ++ (32 ∷ []) ⌝ }
-{
-    let last = out.len() - 1;
-    out[last] = b' ';
-    let mut at = last - 1;
-    let mut left = n;
-    out[at] = b'0' + (left % 10) as u8;
-    while left >= 10 {
-        left /= 10;
-        at -= 1;
-        out[at] = b'0' + (left % 10) as u8;
-    }
-    at
-}
-
-// Writes a literal and a space at the end of the bytes, and says where it begins.
-pub(crate) fn put_literal(out: &mut [u8], l: i32) -> usize
-    requires { ⌜ 8 ≤ length (now out) ⌝ }
-    requires { ⌜ bad-literal 999999 l ≡ false ⌝ }
-    ensures begins { λ r. ⌜ r ≤ length (now (out .exit)) ⌝ }
-    ensures writes_literal { λ r. ⌜ drop r (now (out .exit)) ≡ literal-text l ⌝ }
-{
-    let at = put_decimal(out, l.unsigned_abs());
-    if l < 0 {
-        let before = at - 1;
-        out[before] = b'-';
-        before
-    } else {
-        at
-    }
 }

@@ -9,8 +9,8 @@ ghost use lib.ListN.{length, take, drop};
 ghost use Rattle.rules.specs.Clauses.{bad-literal};
 ghost use Rattle.text.specs.Bounds.{text-cheap};
 ghost use Rattle.text.specs.Lines.{literal-text, text-cost};
+use crate::digits::digit_count;
 use crate::digits::line_cost;
-use crate::digits::put_literal;
 use crate::lines::TextSink;
 use crate::lines::asking::TextSinkSource;
 use clauses::Sink;
@@ -74,13 +74,18 @@ impl<'a> TextSink<'a> {
         ensures keeps_count { λ r. ⌜ now (self .exit) .count ≡ now (self .entry) .count ⌝ }
         ensures keeps_loan { λ r. ⌜ name (now (self .exit) .bytes) ≡ name (now (self .entry) .bytes) ⌝ }
     {
-        // Digits come last first, so they are made apart and then copied.
-        let mut buffer = [0u8; 8];
-        let from = put_literal(&mut buffer, l);
-        let text = &buffer[from..8];
-        for i in 0..text.len() {
-            self.bytes[at + i] = text[i];
+        let size = l.unsigned_abs();
+        let first = at + (l < 0) as usize;
+        let count = digit_count(size);
+        let end = first + count;
+        // Without a sign the first digit overwrites the minus.
+        self.bytes[at] = b'-';
+        self.bytes[end] = b' ';
+        let mut left = size;
+        for j in 0..count {
+            self.bytes[first + (count - (j + 1))] = b'0' + (left % 10) as u8;
+            left /= 10;
         }
-        at + text.len()
+        end + 1
     }
 }
