@@ -3,7 +3,8 @@ ghost use mathlib.Core.Path.{_≡_};
 ghost use mathlib.Core.Bool.{false};
 ghost use mathlib.Core.List.{[], _∷_, _++_};
 ghost use Prim.Native.Nat.{_+_, _<_, _≤_};
-ghost use lib.ListN.{length, drop};
+ghost use lib.Dec.{leb};
+ghost use lib.ListN.{length};
 ghost use Rattle.std.specs.Written.{decimal};
 ghost use Rattle.rules.specs.Clauses.{bad-literal, bad-clause};
 ghost use Rattle.text.specs.Lines.{literal-text, line-text};
@@ -41,4 +42,15 @@ pub(crate) fn line_cost(clause: &[i32]) -> usize
         cost += literal_cost(clause[i]);
     }
     cost
+}
+
+// Whether a clause's line fits into so many bytes; it is counted only where it might not.
+pub(crate) fn line_fits(clause: &[i32], left: usize) -> bool
+    requires { ⌜ bad-clause 999999 (now clause) ≡ false ⌝ }
+    ensures fits_line { λ r. ⌜ r ≡ leb (length (line-text (now (clause .entry)))) left ⌝ }
+{
+    if left >= 8 * clause.len() + 2 {
+        return true;
+    }
+    line_cost(clause) <= left
 }

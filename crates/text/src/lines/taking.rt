@@ -11,6 +11,7 @@ ghost use Rattle.text.specs.Bounds.{text-cheap};
 ghost use Rattle.text.specs.Lines.{literal-text, text-cost};
 use crate::digits::digit_count;
 use crate::digits::line_cost;
+use crate::digits::line_fits;
 use crate::lines::TextSink;
 use crate::lines::asking::TextSinkSource;
 use clauses::Sink;
@@ -44,8 +45,7 @@ pub impl<'a> Sink for TextSink<'a> as TextSinkSink {
         if bad_clause(999_999, clause) {
             return Err(Refusal::BadClause);
         }
-        let cost = line_cost(clause);
-        if self.bytes.len() - self.used < cost {
+        if !line_fits(clause, self.bytes.len() - self.used) {
             return Err(Refusal::NoSpace);
         }
         let mut at = self.used;

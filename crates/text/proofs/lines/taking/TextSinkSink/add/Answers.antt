@@ -12,7 +12,7 @@ use mir.Val.{SFits, toZ, ofZ}
 use mir.Syntax.{w32}
 use Rattle.std.proofs.shelf.Lists.{append-assoc, length-append, length-push, length-take-le, take-all, take-set-le, drop-map}
 use Rattle.std.proofs.shelf.Signed.{toZ-ofZ}
-use Rattle.std.proofs.shelf.Tests.{cond-false, or-parts}
+use Rattle.std.proofs.shelf.Tests.{cond-false, or-parts, leb-true, leb-false}
 use Rattle.rules.specs.Lists.{any, each}
 use Rattle.rules.specs.Clauses.{Clause, total, bad-literal, bad-clause}
 use Rattle.clauses.specs.Rows.{parse}
@@ -22,15 +22,15 @@ use Rattle.text.specs.Scan.{numbers}
 use Rattle.text.proofs.Rendering.{spent, few, literals-more, literals-within, room-here, finish}
 use Rattle.text.proofs.lines.taking.TextSinkSink.add.Needs as need
 
-pub returns-then-self-cost : need.returns-then-self-cost
-returns-then-self-cost c =
+pub returns-then-not-line-fits : need.returns-then-not-line-fits
+returns-then-not-line-fits c =
     let s = c .args .self .now in
     let bs = now (s .bytes) in
     let xs = c .args .clause .now in
     let b = sym (c .if-bad-clause .ensures tt .tells-bad-clause) in
     let e = spent bs (s .used) (s .within) (s .rendered) (s .granted) in
     let p = cond-false (bad-clause 999999 xs) 0 (length (line-text xs)) b in
-    let l : length bs - total text-cost (parse (numbers (take (s .used) bs))) < text-cost xs = omega (arith, c .line-cost-cost .ensures .counts-line, c .if-self-cost .taken) in
+    let l : length bs - total text-cost (parse (numbers (take (s .used) bs))) < text-cost xs = omega (arith, leb-false (length (line-text (c .args .clause .now))) (length (now (c .args .self .now .bytes)) - c .args .self .now .used) (sym (c .line-fits .ensures .fits-line) ∙ c .if-not-line-fits .taken)) in
     record {
       grants-where-space = sym (judged-full 999999 _ _ xs b l);
       stands-last = refl;
@@ -48,7 +48,7 @@ put-at-requires c κs =
     let f : SFits w32 (getD xs i (pos 0)) = search needs in
     let same = toZ-ofZ w32 (getD xs i (pos 0)) f in
     let b = sym (c .if-bad-clause .ensures tt .tells-bad-clause) in
-    let room : s .used + length (line-text xs) ≤ length (now (s .bytes)) = omega (arith, c .line-cost-cost .ensures .counts-line, c .if-self-cost .left, s .within) in
+    let room : s .used + length (line-text xs) ≤ length (now (s .bytes)) = omega (arith, (leb-true (length (line-text (c .args .clause .now))) (length (now (c .args .self .now .bytes)) - c .args .self .now .used) (sym (c .line-fits .ensures .fits-line) ∙ c .if-not-line-fits .left)), s .within) in
     record {
       past = omega (arith, c .loop-i .inv .1, c .loop-i .inv .4);
       room = omega (arith, c .loop-i .inv .0, c .loop-i .inv .1, ap (λ (z : ℤ). length (literal-text z)) same, room-here (s .used) xs i (length (now (s .bytes))) (c .loop-i-test .taken) room);
@@ -91,7 +91,7 @@ left-for used cost at i ws vs xs h e l long where-at last = omega (arith, ap (λ
 pub index-self-at : need.index-self-at
 index-self-at c =
     let s = c .args .self .now in
-    let h = left-for (s .used) (c .line-cost-cost .result) (c .loop-i .at) (c .loop-i .i) (now (s .bytes)) (now (c .loop-i .self .bytes)) (c .args .clause .now) (s .within) (c .line-cost-cost .ensures .counts-line) (c .if-self-cost .left) (c .loop-i .inv .0) (c .loop-i .inv .1) (c .loop-i-test .left) in
+    let h = left-for (s .used) (length (line-text (c .args .clause .now))) (c .loop-i .at) (c .loop-i .i) (now (s .bytes)) (now (c .loop-i .self .bytes)) (c .args .clause .now) (s .within) refl (leb-true (length (line-text (c .args .clause .now))) (length (now (c .args .self .now .bytes)) - c .args .self .now .used) (sym (c .line-fits .ensures .fits-line) ∙ c .if-not-line-fits .left)) (c .loop-i .inv .0) (c .loop-i .inv .1) (c .loop-i-test .left) in
     omega arith
 
 -- a write past what is used leaves it
@@ -108,32 +108,32 @@ ghost-self c =
 pub add-self : need.add-self
 add-self c =
     let s = c .args .self .now in
-    let h = left-for (s .used) (c .line-cost-cost .result) (c .loop-i .at) (c .loop-i .i) (now (s .bytes)) (now (c .loop-i .self .bytes)) (c .args .clause .now) (s .within) (c .line-cost-cost .ensures .counts-line) (c .if-self-cost .left) (c .loop-i .inv .0) (c .loop-i .inv .1) (c .loop-i-test .left) in
+    let h = left-for (s .used) (length (line-text (c .args .clause .now))) (c .loop-i .at) (c .loop-i .i) (now (s .bytes)) (now (c .loop-i .self .bytes)) (c .args .clause .now) (s .within) refl (leb-true (length (line-text (c .args .clause .now))) (length (now (c .args .self .now .bytes)) - c .args .self .now .used) (sym (c .line-fits .ensures .fits-line) ∙ c .if-not-line-fits .left)) (c .loop-i .inv .0) (c .loop-i .inv .1) (c .loop-i-test .left) in
     search needs
 
 pub index-self-at-2 : need.index-self-at-2
 index-self-at-2 c =
     let s = c .args .self .now in
-    let h = left-for (s .used) (c .line-cost-cost .result) (c .loop-i .at) (c .loop-i .i) (now (s .bytes)) (now (c .loop-i .self .bytes)) (c .args .clause .now) (s .within) (c .line-cost-cost .ensures .counts-line) (c .if-self-cost .left) (c .loop-i .inv .0) (c .loop-i .inv .1) (c .loop-i-test .left) in
+    let h = left-for (s .used) (length (line-text (c .args .clause .now))) (c .loop-i .at) (c .loop-i .i) (now (s .bytes)) (now (c .loop-i .self .bytes)) (c .args .clause .now) (s .within) refl (leb-true (length (line-text (c .args .clause .now))) (length (now (c .args .self .now .bytes)) - c .args .self .now .used) (sym (c .line-fits .ensures .fits-line) ∙ c .if-not-line-fits .left)) (c .loop-i .inv .0) (c .loop-i .inv .1) (c .loop-i-test .left) in
     omega (arith, length-set (now (c .loop-i .self .bytes)) (c .loop-i .at) 48)
 
 pub add-self-2 : need.add-self-2
 add-self-2 c =
     let s = c .args .self .now in
-    let h = left-for (s .used) (c .line-cost-cost .result) (c .loop-i .at) (c .loop-i .i) (now (s .bytes)) (now (c .loop-i .self .bytes)) (c .args .clause .now) (s .within) (c .line-cost-cost .ensures .counts-line) (c .if-self-cost .left) (c .loop-i .inv .0) (c .loop-i .inv .1) (c .loop-i-test .left) in
+    let h = left-for (s .used) (length (line-text (c .args .clause .now))) (c .loop-i .at) (c .loop-i .i) (now (s .bytes)) (now (c .loop-i .self .bytes)) (c .args .clause .now) (s .within) refl (leb-true (length (line-text (c .args .clause .now))) (length (now (c .args .self .now .bytes)) - c .args .self .now .used) (sym (c .line-fits .ensures .fits-line) ∙ c .if-not-line-fits .left)) (c .loop-i .inv .0) (c .loop-i .inv .1) (c .loop-i-test .left) in
     search needs
 
 pub add-self-3 : need.add-self-3
 add-self-3 c =
     let s = c .args .self .now in
-    let h = left-for (s .used) (c .line-cost-cost .result) (c .loop-i .at) (c .loop-i .i) (now (s .bytes)) (now (c .loop-i .self .bytes)) (c .args .clause .now) (s .within) (c .line-cost-cost .ensures .counts-line) (c .if-self-cost .left) (c .loop-i .inv .0) (c .loop-i .inv .1) (c .loop-i-test .left) in
+    let h = left-for (s .used) (length (line-text (c .args .clause .now))) (c .loop-i .at) (c .loop-i .i) (now (s .bytes)) (now (c .loop-i .self .bytes)) (c .args .clause .now) (s .within) refl (leb-true (length (line-text (c .args .clause .now))) (length (now (c .args .self .now .bytes)) - c .args .self .now .used) (sym (c .line-fits .ensures .fits-line) ∙ c .if-not-line-fits .left)) (c .loop-i .inv .0) (c .loop-i .inv .1) (c .loop-i-test .left) in
     let a : c .loop-i .self .count ≤ c .loop-i .at = omega (arith, c .loop-i .inv .1, c .loop-i .inv .5, s .counted, few (now (s .bytes)) (s .used) (s .within)) in
     search needs
 
 pub ghost-self-2 : need.ghost-self-2
 ghost-self-2 c =
     let s = c .args .self .now in
-    let d = finish (s .used) (now (s .bytes)) (c .args .clause .now) (c .loop-i .at) (c .loop-i .i) (now (c .loop-i .self .bytes)) (s .rendered) (s .granted) (sym (c .if-bad-clause .ensures tt .tells-bad-clause)) (room-for (s .used) (c .line-cost-cost .result) (length (now (s .bytes))) (c .args .clause .now) (s .within) (c .line-cost-cost .ensures .counts-line) (c .if-self-cost .left)) (c .loop-i-test .left) (c .loop-i .inv .0) (c .loop-i .inv .1) (c .loop-i .inv .2) (c .loop-i .inv .3) in (
+    let d = finish (s .used) (now (s .bytes)) (c .args .clause .now) (c .loop-i .at) (c .loop-i .i) (now (c .loop-i .self .bytes)) (s .rendered) (s .granted) (sym (c .if-bad-clause .ensures tt .tells-bad-clause)) (room-for (s .used) (length (line-text (c .args .clause .now))) (length (now (s .bytes))) (c .args .clause .now) (s .within) refl (leb-true (length (line-text (c .args .clause .now))) (length (now (c .args .self .now .bytes)) - c .args .self .now .used) (sym (c .line-fits .ensures .fits-line) ∙ c .if-not-line-fits .left))) (c .loop-i-test .left) (c .loop-i .inv .0) (c .loop-i .inv .1) (c .loop-i .inv .2) (c .loop-i .inv .3) in (
       d .within,
       (
         d .more .renders,
@@ -149,11 +149,11 @@ returns c =
     let s = c .args .self .now in
     let ws = now (s .bytes) in
     let xs = c .args .clause .now in
-    let d = finish (s .used) (now (s .bytes)) (c .args .clause .now) (c .loop-i .at) (c .loop-i .i) (now (c .loop-i .self .bytes)) (s .rendered) (s .granted) (sym (c .if-bad-clause .ensures tt .tells-bad-clause)) (room-for (s .used) (c .line-cost-cost .result) (length (now (s .bytes))) (c .args .clause .now) (s .within) (c .line-cost-cost .ensures .counts-line) (c .if-self-cost .left)) (c .loop-i-test .left) (c .loop-i .inv .0) (c .loop-i .inv .1) (c .loop-i .inv .2) (c .loop-i .inv .3) in
+    let d = finish (s .used) (now (s .bytes)) (c .args .clause .now) (c .loop-i .at) (c .loop-i .i) (now (c .loop-i .self .bytes)) (s .rendered) (s .granted) (sym (c .if-bad-clause .ensures tt .tells-bad-clause)) (room-for (s .used) (length (line-text (c .args .clause .now))) (length (now (s .bytes))) (c .args .clause .now) (s .within) refl (leb-true (length (line-text (c .args .clause .now))) (length (now (c .args .self .now .bytes)) - c .args .self .now .used) (sym (c .line-fits .ensures .fits-line) ∙ c .if-not-line-fits .left))) (c .loop-i-test .left) (c .loop-i .inv .0) (c .loop-i .inv .1) (c .loop-i .inv .2) (c .loop-i .inv .3) in
     let b = sym (c .if-bad-clause .ensures tt .tells-bad-clause) in
     let p = cond-false (bad-clause 999999 xs) 0 (length (line-text xs)) b in
     let e = spent ws (s .used) (s .within) (s .rendered) (s .granted) in
-    let room : text-cost xs ≤ length ws - total text-cost (parse (numbers (take (s .used) ws))) = omega (arith, c .line-cost-cost .ensures .counts-line, c .if-self-cost .left, s .within) in
+    let room : text-cost xs ≤ length ws - total text-cost (parse (numbers (take (s .used) ws))) = omega (arith, (leb-true (length (line-text (c .args .clause .now))) (length (now (c .args .self .now .bytes)) - c .args .self .now .used) (sym (c .line-fits .ensures .fits-line) ∙ c .if-not-line-fits .left)), s .within) in
     record {
       grants-where-space = sym (judged-ok 999999 _ _ xs b room);
       stands-last = d .more .holds;
