@@ -47,7 +47,7 @@ pub fn encode_text<R: SlotRule>(
     ensures refuses_in_order { λ r. ⌜ answer r ≡ first-refusal (encode-checks (problem-of (now (now (problem .entry) .bytes))) (R·SlotRule .parts (now (rule .entry))) horizon [] 999999 (length (now (bytes .entry))) text-cost) ⌝ }
     ensures whole_memory { λ r. ⌜ text-after (problem-of (now (now (problem .entry) .bytes))) (R·SlotRule .parts (now (rule .entry))) horizon (now (bytes .entry)) r (now (bytes .exit)) ⌝ }
 {
-    let mut sink = text_sink(bytes);
-    encode(problem, horizon, rule, &mut sink)?;
-    Ok(sink.used())
+    let mut lines = text_sink(bytes);
+    encode(problem, horizon, rule, &mut lines)?;
+    Ok(lines.used())
 }
