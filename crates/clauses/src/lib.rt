@@ -3,8 +3,6 @@ mod check;
 mod scan;
 mod sink;
 mod source;
-#[cfg(test)]
-mod tests;
 mod words;
 
 pub use check::bad_clause;

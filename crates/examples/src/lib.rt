@@ -1,6 +1,10 @@
 // The worked examples: one table of rows, which the definitions give and the calls answer.
 #[cfg(test)]
 mod tests;
+#[cfg(test)]
+mod text_sink_tests;
+#[cfg(test)]
+mod word_sink_tests;
 
 ghost use Rattle.examples.specs.Table.{Examples-hold};
 

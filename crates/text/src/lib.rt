@@ -2,8 +2,6 @@
 mod digits;
 mod lines;
 mod reading;
-#[cfg(test)]
-mod tests;
 
 pub use lines::TextSink;
 pub use lines::asking::TextSinkSource;

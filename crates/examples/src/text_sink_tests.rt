@@ -1,18 +1,17 @@
 // Examples: a few lines of text.
-use crate::lines::asking::TextSinkSource;
-use crate::lines::lending::text_sink;
-use crate::lines::taking::TextSinkSink;
 use clauses::Sink;
 use clauses::Source;
+use requests::refusal_number;
 use rules::Refusal;
 use std::test::*;
+use text::TextSinkSink;
+use text::TextSinkSource;
+use text::text_sink;
 
 fn number(answer: Result<(), Refusal>) -> u8 {
     match answer {
         Ok(()) => 0,
-        Err(Refusal::BadClause) => 8,
-        Err(Refusal::NoSpace) => 9,
-        Err(_) => 1,
+        Err(refusal) => refusal_number(refusal),
     }
 }
 

@@ -1,18 +1,17 @@
 // Examples: a few clauses in words.
-use crate::sink::Sink;
-use crate::source::Source;
-use crate::words::asking::WordSinkSource;
-use crate::words::lending::word_sink;
-use crate::words::taking::WordSinkSink;
+use clauses::Sink;
+use clauses::Source;
+use clauses::WordSinkSink;
+use clauses::WordSinkSource;
+use clauses::word_sink;
+use requests::refusal_number;
 use rules::Refusal;
 use std::test::*;
 
 fn number(answer: Result<(), Refusal>) -> u8 {
     match answer {
         Ok(()) => 0,
-        Err(Refusal::BadClause) => 8,
-        Err(Refusal::NoSpace) => 9,
-        Err(_) => 1,
+        Err(refusal) => refusal_number(refusal),
     }
 }
 
