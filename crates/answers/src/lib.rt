@@ -1,4 +1,5 @@
 // A SAT solver's answer, read from its text.
+#![tactic(auto)]
 mod laws;
 mod parts;
 mod reader;

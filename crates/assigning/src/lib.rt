@@ -1,4 +1,5 @@
 // From sheets to truth bytes.
+#![tactic(auto)]
 mod building;
 mod gathering;
 mod lines;

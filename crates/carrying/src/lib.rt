@@ -1,4 +1,5 @@
 // One step carried out at the bench.
+#![tactic(auto)]
 ghost use Rattle.std.specs.Prelude.{◌≡◌, ℕ, not, ◌&&◌, ◌||◌, MatchBool};
 ghost use Rattle.rules.specs.Lists.{has};
 ghost use Rattle.steps.specs.Sets.{facts_in};

@@ -1,4 +1,5 @@
 // Truth bytes as a valuation, and whether it meets a problem's formula.
+#![tactic(auto)]
 mod bytes;
 mod meeting;
 

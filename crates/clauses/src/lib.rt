@@ -1,4 +1,5 @@
 // Clauses: where they are read from, where they go, and the sink over words.
+#![tactic(auto)]
 mod check;
 mod scan;
 mod sink;

@@ -1,4 +1,5 @@
 // From truth bytes to sheets.
+#![tactic(auto)]
 mod counting;
 mod reading;
 mod writing;

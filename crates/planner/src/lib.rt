@@ -1,4 +1,5 @@
 // From problems to clauses in a sink.
+#![tactic(auto)]
 mod encoding;
 
 pub use encoding::encode;

@@ -1,4 +1,5 @@
 // Planning problems, read from the caller's bytes.
+#![tactic(auto)]
 mod laws;
 mod part;
 mod problem;

@@ -1,4 +1,5 @@
 // What every program reads first, and how it says that it refuses.
+#![tactic(auto)]
 mod asking;
 mod printing;
 mod request;

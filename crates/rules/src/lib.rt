@@ -1,4 +1,6 @@
 // The definitions that every contract cites, and their laws. Only plain types are code.
+#![tactic(auto)]
+
 mod laws;
 mod line;
 mod propagation_laws;

@@ -1,4 +1,5 @@
 // Sets of facts, step records and slot rules.
+#![tactic(auto)]
 mod fact_set;
 mod slot_rule;
 mod step_record;

@@ -1,4 +1,5 @@
 // The sink over bytes: clauses as lines of text.
+#![tactic(auto)]
 mod digits;
 mod lines;
 mod reading;

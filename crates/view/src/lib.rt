@@ -1,4 +1,5 @@
 // Clause text as a source over the caller's bytes.
+#![tactic(auto)]
 mod check;
 mod front;
 mod laws;
