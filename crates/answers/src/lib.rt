@@ -1,5 +1,6 @@
 // A SAT solver's answer, read from its text.
 #![tactic(auto)]
+
 mod laws;
 mod parts;
 mod reader;

@@ -1,5 +1,6 @@
 // From sheets to truth bytes.
 #![tactic(auto)]
+
 mod building;
 mod gathering;
 mod lines;

@@ -1,5 +1,6 @@
 // One step carried out at the bench.
 #![tactic(auto)]
+
 ghost use Rattle.std.specs.Prelude.{◌≡◌, ℕ, not, ◌&&◌, ◌||◌, MatchBool};
 ghost use Rattle.rules.specs.Lists.{has};
 ghost use Rattle.steps.specs.Sets.{facts_in};

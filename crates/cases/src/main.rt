@@ -1,6 +1,7 @@
 // Runs what `write` and `sheet` do on many inputs: each is the letter w or s, a 4-byte length, low byte first, and then its bytes.
 // What it prints is compared with what an independent program made of the same inputs (tests/oracle).
 #![tactic(auto)]
+
 ghost use Rattle.std.specs.Prelude.{◌<◌, ◌≤◌, length, IfSome};
 
 use sheet_call::sheet_request;

@@ -1,5 +1,6 @@
 // Truth bytes as a valuation, and whether it meets a problem's formula.
 #![tactic(auto)]
+
 mod bytes;
 mod meeting;
 

@@ -1,5 +1,6 @@
 // Clauses: where they are read from, where they go, and the sink over words.
 #![tactic(auto)]
+
 mod check;
 mod scan;
 mod sink;

@@ -1,5 +1,6 @@
 // From truth bytes to sheets.
 #![tactic(auto)]
+
 mod counting;
 mod reading;
 mod writing;

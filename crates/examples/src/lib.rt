@@ -1,5 +1,6 @@
 // The worked examples: one table of rows, which the definitions give and the calls answer.
 #![tactic(auto)]
+
 #[cfg(test)]
 mod sheet_tests;
 #[cfg(test)]

@@ -1,5 +1,6 @@
 // Calls for programs in other languages: a slice passes as a pointer and a length. The benchmark links them.
 #![tactic(auto)]
+
 mod formulas;
 mod sheets;
 mod telling;

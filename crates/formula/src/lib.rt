@@ -1,5 +1,6 @@
 // The formula of a problem at a horizon: its clauses enumerated in one place, and its sizes.
 #![tactic(auto)]
+
 mod counting;
 mod enumeration;
 mod tally;

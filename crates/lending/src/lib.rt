@@ -1,5 +1,6 @@
 // Calls into memory that the caller lends: what all of it holds afterwards.
 #![tactic(auto)]
+
 mod formulas;
 mod sheets;
 

@@ -1,5 +1,6 @@
 // Text cut into lines, and words of text read as numbers.
 #![tactic(auto)]
+
 mod cutting;
 mod laws;
 mod numeral;

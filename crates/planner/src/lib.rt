@@ -1,5 +1,6 @@
 // From problems to clauses in a sink.
 #![tactic(auto)]
+
 mod encoding;
 
 pub use encoding::encode;

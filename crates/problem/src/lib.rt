@@ -1,5 +1,6 @@
 // Planning problems, read from the caller's bytes.
 #![tactic(auto)]
+
 mod laws;
 mod part;
 mod problem;

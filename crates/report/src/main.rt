@@ -1,5 +1,6 @@
 // `report`: one dash from its step list to clauses for a solver, and from the solver's reply to a sheet that is carried out, told for the workshop. Every figure comes from a call.
 #![tactic(auto)]
+
 mod dash;
 mod reply;
 

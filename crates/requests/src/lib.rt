@@ -1,5 +1,6 @@
 // What every program reads first, and how it says that it refuses.
 #![tactic(auto)]
+
 mod asking;
 mod printing;
 mod request;

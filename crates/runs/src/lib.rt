@@ -1,5 +1,6 @@
 // The calls of a refutation and their runs, as definitions that the calls' contracts cite, and the laws on them. Only plain types are code.
 #![tactic(auto)]
+
 mod laws;
 mod noted;
 mod place;

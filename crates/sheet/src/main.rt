@@ -1,5 +1,6 @@
 // `sheet`: T, the rule, a problem and a solver's answer on standard input become the lines of a sheet on standard output.
 #![tactic(auto)]
+
 use sheet_call::sheet_request;
 use std::io::{Read, Write};
 

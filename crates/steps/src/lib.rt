@@ -1,5 +1,6 @@
 // Sets of facts, step records and slot rules.
 #![tactic(auto)]
+
 mod fact_set;
 mod slot_rule;
 mod step_record;

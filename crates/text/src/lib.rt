@@ -1,5 +1,6 @@
 // The sink over bytes: clauses as lines of text.
 #![tactic(auto)]
+
 mod digits;
 mod lines;
 mod reading;

@@ -1,5 +1,6 @@
 // Clause text as a source over the caller's bytes.
 #![tactic(auto)]
+
 mod check;
 mod front;
 mod laws;

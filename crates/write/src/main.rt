@@ -1,5 +1,6 @@
 // `write`: T, the rule and a problem on standard input become clause text on standard output.
 #![tactic(auto)]
+
 use std::io::{Read, Write};
 use write_call::write_request;
 

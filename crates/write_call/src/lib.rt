@@ -1,5 +1,6 @@
 // The one call behind the program `write`: from input bytes to output bytes.
 #![tactic(auto)]
+
 mod printing;
 mod writing;
 
