@@ -5,23 +5,23 @@ use Rattle.answers.proofs.Turns.{word_on, word_off, word_shorter, closed, last_o
 use Rattle.answers.proofs.values.take_numbers.Goals as goal
 use Rattle.std.proofs.lemmas.Bool.Decides.{Decides-eqb}
 
-pub returns-in-err-take-literal : goal.returns-in-err-take-literal
-returns-in-err-take-literal c =
+pub returns-in_err-take_literal : goal.returns-in_err-take_literal
+returns-in_err-take_literal c =
     let p = c.in-Some.ensures.cuts_word in
-    record { takes_numbers = MatchResult-from_err c.from-residual.result _ _ c.from-residual.ensures.0 (λ _. c.loop-word.invariant ∙ word_off (length c.args.truth.now) c.loop-word.truth c.loop-word.left.now (omega arith) c.in-Some.word.now c.in-Some.rest.now p c.in-err-take-literal.ensures.marks_literal) }
+    record { takes_numbers = MatchResult-from_err c.from_residual.result _ _ c.from_residual.ensures.0 (λ _. c.loop-word.invariant ∙ word_off (length c.args.truth.now) c.loop-word.truth c.loop-word.left.now (omega arith) c.in-Some.word.now c.in-Some.rest.now p c.in_err-take_literal.ensures.marks_literal) }
 
 pub loop-word-smaller : goal.loop-word-smaller
 loop-word-smaller c = word_shorter c.loop-word.left.now c.in-Some.word.now c.in-Some.rest.now c.in-Some.ensures.cuts_word
 
 pub loop-word-preserved : goal.loop-word-preserved
-loop-word-preserved c = c.loop-word.invariant ∙ word_on (length c.args.truth.now) c.loop-word.truth c.loop-word.left.now (omega arith) c.in-Some.word.now c.in-Some.rest.now c.in-Some.ensures.cuts_word _ c.in-ok-take-literal.ensures.marks_literal
+loop-word-preserved c = c.loop-word.invariant ∙ word_on (length c.args.truth.now) c.loop-word.truth c.loop-word.left.now (omega arith) c.in-Some.word.now c.in-Some.rest.now c.in-Some.ensures.cuts_word _ c.in_ok-take_literal.ensures.marks_literal
 
 pub returns-then-eq : goal.returns-then-eq
-returns-then-eq c = record { takes_numbers = c.loop-word.invariant ∙ closed (length c.args.truth.now) c.loop-word.truth c.loop-word.left.now (omega arith) c.in-default.ensures.cuts_word ((slice_eq-Decides Decides-eqb _ _ _ c.eq.ensures).0 c.if-eq.true) }
+returns-then-eq c = record { takes_numbers = c.loop-word.invariant ∙ closed (length c.args.truth.now) c.loop-word.truth c.loop-word.left.now (omega arith) c.in_default.ensures.cuts_word ((slice_eq-Decides Decides-eqb _ _ _ c.eq.ensures).0 c.if-eq.true) }
 
-pub returns-in-err-take-literal-2 : goal.returns-in-err-take-literal-2
-returns-in-err-take-literal-2 c =
-    record { takes_numbers = MatchResult-from_err c.from-residual-in-err-take-literal-2.result _ _ c.from-residual-in-err-take-literal-2.ensures.0 (λ _. c.loop-word.invariant ∙ last_off (length c.args.truth.now) c.loop-word.truth c.loop-word.left.now (omega arith) c.in-default.ensures.cuts_word c.eq.result (slice_eq-Decides Decides-eqb _ _ _ c.eq.ensures) c.if-eq.false c.in-err-take-literal-2.ensures.marks_literal) }
+pub returns-in_err-take_literal-2 : goal.returns-in_err-take_literal-2
+returns-in_err-take_literal-2 c =
+    record { takes_numbers = MatchResult-from_err c.from_residual-in_err-take_literal-2.result _ _ c.from_residual-in_err-take_literal-2.ensures.0 (λ _. c.loop-word.invariant ∙ last_off (length c.args.truth.now) c.loop-word.truth c.loop-word.left.now (omega arith) c.in_default.ensures.cuts_word c.eq.result (slice_eq-Decides Decides-eqb _ _ _ c.eq.ensures) c.if-eq.false c.in_err-take_literal-2.ensures.marks_literal) }
 
 pub returns : goal.returns
-returns c = record { takes_numbers = c.loop-word.invariant ∙ last_on (length c.args.truth.now) c.loop-word.truth c.loop-word.left.now (omega arith) c.in-default.ensures.cuts_word c.eq.result (slice_eq-Decides Decides-eqb _ _ _ c.eq.ensures) c.if-eq.false _ c.in-ok-take-literal-2.ensures.marks_literal }
+returns c = record { takes_numbers = c.loop-word.invariant ∙ last_on (length c.args.truth.now) c.loop-word.truth c.loop-word.left.now (omega arith) c.in_default.ensures.cuts_word c.eq.result (slice_eq-Decides Decides-eqb _ _ _ c.eq.ensures) c.if-eq.false _ c.in_ok-take_literal-2.ensures.marks_literal }

@@ -7,4 +7,4 @@ pub returns : goal.returns
 returns c =
     let line = c.args.line.now in
     let truth = c.args.truth.now in
-    record { takes_line = MatchResult-weaker c.take-numbers.result c.take-numbers.ensures.takes_numbers (λ at h. values_are (length truth) truth line _ (omega arith) (omega arith) h) (λ e h. values_are (length truth) truth line _ (omega arith) (omega arith) h) }
+    record { takes_line = MatchResult-weaker c.take_numbers.result c.take_numbers.ensures.takes_numbers (λ at h. values_are (length truth) truth line _ (omega arith) (omega arith) h) (λ e h. values_are (length truth) truth line _ (omega arith) (omega arith) h) }

@@ -7,8 +7,8 @@ use Rattle.problem.specs.Tables.{means}
 use Rattle.assigning.proofs.Valuing.{computed_valued, built_more, most}
 use Rattle.assigning.proofs.building.build.Goals as goal
 
-pub value-at-requires : goal.value-at-requires
-value-at-requires c =
+pub value_at-requires : goal.value_at-requires
+value_at-requires c =
     let t = c.args.table.now in
     let q = mul-le-mul_right (t.facts + t.steps) c.requires.0 in
     let b = most c.args.horizon t.facts t.steps c.requires.0 t.few.0 t.few.1 in (
@@ -41,5 +41,5 @@ loop-i-preserved c =
     let b = most c.args.horizon t.facts t.steps c.requires.0 t.few.0 t.few.1 in
     let h : i < 32 * width p + t.facts = omega (arith, q, c.loop-i-test.true) in
     let pos : 0 < width p = omega arith in
-    let v = c.value-at.ensures.computes ∙ computed_valued p ls c.mark-marks.result c.gather-clears.result c.gather-sets.result c.loop-i.bytes i pos t.few.1 h c.mark-marks.ensures.marks_lines c.gather-clears.ensures.joins_parts c.gather-sets.ensures.joins_parts c.loop-i.invariant.1 in
-    (length-set c.loop-i.bytes i (bool_byte c.value-at.result) ∙ c.loop-i.invariant.0, built_more (valued p ls) c.loop-i.bytes i c.value-at.result (omega (arith, b, c.loop-i-test.true, c.loop-i.invariant.0)) v c.loop-i.invariant.1)
+    let v = c.value_at.ensures.computes ∙ computed_valued p ls c.mark-marks.result c.gather-clears.result c.gather-sets.result c.loop-i.bytes i pos t.few.1 h c.mark-marks.ensures.marks_lines c.gather-clears.ensures.joins_parts c.gather-sets.ensures.joins_parts c.loop-i.invariant.1 in
+    (length-set c.loop-i.bytes i (bool_byte c.value_at.result) ∙ c.loop-i.invariant.0, built_more (valued p ls) c.loop-i.bytes i c.value_at.result (omega (arith, b, c.loop-i-test.true, c.loop-i.invariant.0)) v c.loop-i.invariant.1)

@@ -11,8 +11,8 @@ bounds-marks-t c =
     let below = slot_below w t.facts c.args.i pos (omega arith) c.requires.0 c.if-k-table.true in
     omega (arith, below, mod_below c.args.i w pos, t.few.1, c.requires.1.0)
 
-pub overflow-sub-i : goal.overflow-sub-i
-overflow-sub-i c =
+pub overflow_sub-i : goal.overflow_sub-i
+overflow_sub-i c =
     let t = c.args.table.now in
     let w = t.facts + t.steps in
     let pos : 0 < w = omega (arith, c.requires) in

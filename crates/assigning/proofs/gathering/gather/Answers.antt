@@ -13,8 +13,8 @@ use Rattle.assigning.proofs.gathering.gather.Goals as goal
 pub loop-l-init : goal.loop-l-init
 loop-l-init c = unions_none (means c.args.table.now) c.args.part c.empty-sets.result c.empty-sets.ensures.has_no_fact
 
-pub overflow-sub-u : goal.overflow-sub-u
-overflow-sub-u c = (line_within (means c.args.table.now) c.args.horizon c.args.lines.now c.requires.1 c.loop-l.l-index (record { slot = 0; step = 0 }) c.loop-l-test.true).0
+pub overflow_sub-u : goal.overflow_sub-u
+overflow_sub-u c = (line_within (means c.args.table.now) c.args.horizon c.args.lines.now c.requires.1 c.loop-l.l-index (record { slot = 0; step = 0 }) c.loop-l-test.true).0
 
 pub bounds-sets-u : goal.bounds-sets-u
 bounds-sets-u c =

@@ -10,11 +10,11 @@ use Rattle.assigning.proofs.gathering.mark.Goals as goal
 pub loop-l-init : goal.loop-l-init
 loop-l-init c = marks_none
 
-pub overflow-sub-marks : goal.overflow-sub-marks
-overflow-sub-marks c = (line_within (means c.args.table.now) c.args.horizon c.args.lines.now c.requires.1 c.loop-l.l-index (record { slot = 0; step = 0 }) c.loop-l-test.true).0
+pub overflow_sub-marks : goal.overflow_sub-marks
+overflow_sub-marks c = (line_within (means c.args.table.now) c.args.horizon c.args.lines.now c.requires.1 c.loop-l.l-index (record { slot = 0; step = 0 }) c.loop-l-test.true).0
 
-pub overflow-sub-marks-in-loop-l : goal.overflow-sub-marks-in-loop-l
-overflow-sub-marks-in-loop-l c = (line_within (means c.args.table.now) c.args.horizon c.args.lines.now c.requires.1 c.loop-l.l-index (record { slot = 0; step = 0 }) c.loop-l-test.true).2
+pub overflow_sub-marks-in-loop-l : goal.overflow_sub-marks-in-loop-l
+overflow_sub-marks-in-loop-l c = (line_within (means c.args.table.now) c.args.horizon c.args.lines.now c.requires.1 c.loop-l.l-index (record { slot = 0; step = 0 }) c.loop-l-test.true).2
 
 pub bounds-marks-l : goal.bounds-marks-l
 bounds-marks-l c =

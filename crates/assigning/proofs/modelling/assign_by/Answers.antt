@@ -10,8 +10,8 @@ use Rattle.assigning.proofs.Refusing.{meets_holds, holds_meets, refuse_17, grant
 use Rattle.assigning.proofs.Valuing.{most}
 use Rattle.assigning.proofs.modelling.assign_by.Goals as goal
 
-pub slice-bounds-built-end : goal.slice-bounds-built-end
-slice-bounds-built-end g c =
+pub slice_bounds-built-end : goal.slice_bounds-built-end
+slice_bounds-built-end g c =
     let t = c.args.table.now in
     let h : c.args.horizon * (t.facts + t.steps) + t.facts ≤ length c.build-bytes.result = omega (arith, most c.args.horizon t.facts t.steps c.if-horizon-gt32.false t.few.0 t.few.1, c.build-bytes.ensures.long) in
     search rules
@@ -20,18 +20,18 @@ slice-bounds-built-end g c =
 told_model : (v : ℕ) (bytes : List ℕ) (vs : List Bool) → take v bytes ≡ bytes_of vs → told (take (v - 0) bytes) ≡ vs
 told_model v bytes vs e = let z : v - 0 ≡ v = omega arith in ap (λ n. told (take n bytes)) z ∙ ap told e ∙ told_back vs
 
-pub returns-then-not-meets-formula : goal.returns-then-not-meets-formula
-returns-then-not-meets-formula g c =
+pub returns-then-not-meets_formula : goal.returns-then-not-meets_formula
+returns-then-not-meets_formula g c =
     let p = means c.args.table.now in
     let rule = g.R.SlotRule.parts c.args.rule.now in
     let t = c.args.horizon in
     let ls = c.args.lines.now in
     let law = formula_means_sheets_lem p c.requires rule (g.met.R.SlotRule.lawful c.args.rule.now) t in
-    let sheet = c.if-not-is-sheet.ensures.answers_sheet in
+    let sheet = c.if-not-is_sheet.ensures.answers_sheet in
     let same = told_model (vars p t) c.build-bytes.result (model p t ls) c.build-bytes.ensures.builds_model in
     record {
       assigns = record {
-        answers = refuse_17 p rule t ls (length c.args.truth.now) c.if-horizon-gt32.false c.if-truth-variables.false sheet (λ h. c.if-not-meets-formula.ensures.answers_satisfaction (subst (λ (vs : List Bool). Satisfies (value vs) (formula p rule t)) (sym same) (holds_meets p rule t law ls sheet h)));
+        answers = refuse_17 p rule t ls (length c.args.truth.now) c.if-horizon-gt32.false c.if-truth-variables.false sheet (λ h. c.if-not-meets_formula.ensures.answers_satisfaction (subst (λ (vs : List Bool). Satisfies (value vs) (formula p rule t)) (sym same) (holds_meets p rule t law ls sheet h)));
         writes = refl;
       };
     }
@@ -43,12 +43,12 @@ returns g c =
     let t = c.args.horizon in
     let ls = c.args.lines.now in
     let law = formula_means_sheets_lem p c.requires rule (g.met.R.SlotRule.lawful c.args.rule.now) t in
-    let sheet = c.if-not-is-sheet.ensures.answers_sheet in
+    let sheet = c.if-not-is_sheet.ensures.answers_sheet in
     let same = told_model (vars p t) c.build-bytes.result (model p t ls) c.build-bytes.ensures.builds_model in
     let z : vars p t - 0 ≡ vars p t = omega arith in
     record {
       assigns = record {
-        answers = grant p rule t ls (length c.args.truth.now) c.if-horizon-gt32.false c.if-truth-variables.false sheet (meets_holds p rule t law ls sheet (subst (λ (vs : List Bool). Satisfies (value vs) (formula p rule t)) same c.if-not-meets-formula.ensures.answers_satisfaction));
-        writes = c.copy-from-slice.ensures.after ∙ ap (λ n. take n c.build-bytes.result) z ∙ c.build-bytes.ensures.builds_model;
+        answers = grant p rule t ls (length c.args.truth.now) c.if-horizon-gt32.false c.if-truth-variables.false sheet (meets_holds p rule t law ls sheet (subst (λ (vs : List Bool). Satisfies (value vs) (formula p rule t)) same c.if-not-meets_formula.ensures.answers_satisfaction));
+        writes = c.copy_from_slice.ensures.after ∙ ap (λ n. take n c.build-bytes.result) z ∙ c.build-bytes.ensures.builds_model;
       };
     }

@@ -7,13 +7,13 @@ use Rattle.checking.specs.Told.{told}
 use Rattle.checking.proofs.Telling.{any_here, any_later}
 use Rattle.checking.proofs.meeting.meets_clause.Goals as goal
 
-pub returns-then-says-true : goal.returns-then-says-true
-returns-then-says-true c =
+pub returns-then-says_true : goal.returns-then-says_true
+returns-then-says_true c =
     let xs = c.args.clause.now in
     let i = c.loop-l.l-index in
     let f : SFits w32 (get_or xs i (pos 0)) = search rules in
     let w = value (told c.args.truth.now) in
-    let e = ap (says w) (sym (to_z-of_z w32 (get_or xs i (pos 0)) f)) ∙ sym c.if-says-true.ensures.answers_literal in
+    let e = ap (says w) (sym (to_z-of_z w32 (get_or xs i (pos 0)) f)) ∙ sym c.if-says_true.ensures.answers_literal in
     record { answers_clause = sym (c.loop-l.invariant ∙ any_here (says w) xs i (pos 0) c.loop-l-test.true e) }
 
 pub loop-l-preserved : goal.loop-l-preserved
@@ -22,7 +22,7 @@ loop-l-preserved c =
     let i = c.loop-l.l-index in
     let f : SFits w32 (get_or xs i (pos 0)) = search rules in
     let w = value (told c.args.truth.now) in
-    let e = ap (says w) (sym (to_z-of_z w32 (get_or xs i (pos 0)) f)) ∙ sym c.if-says-true.ensures.answers_literal in
+    let e = ap (says w) (sym (to_z-of_z w32 (get_or xs i (pos 0)) f)) ∙ sym c.if-says_true.ensures.answers_literal in
     c.loop-l.invariant ∙ any_later (says w) xs i (pos 0) c.loop-l-test.true e
 
 pub returns : goal.returns

@@ -10,5 +10,5 @@ pub returns : goal.returns
 returns g c =
     let bytes = c.args.truth.now in
     let cs = formula (means c.args.table.now) (g.R.SlotRule.parts c.args.rule.now) c.args.horizon in
-    let v = visited bytes cs _ _ _ c.each-clause.ensures.visits_formula in
-    record { answers_satisfaction = subst (λ (b : Bool). MatchBool b (Satisfies (value (told bytes)) cs) (Satisfies (value (told bytes)) cs → ⊥)) (sym c.is-ok.ensures.value) v }
+    let v = visited bytes cs _ _ _ c.each_clause.ensures.visits_formula in
+    record { answers_satisfaction = subst (λ (b : Bool). MatchBool b (Satisfies (value (told bytes)) cs) (Satisfies (value (told bytes)) cs → ⊥)) (sym c.is_ok.ensures.value) v }

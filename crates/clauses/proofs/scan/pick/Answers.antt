@@ -6,11 +6,11 @@ use Rattle.clauses.proofs.scan.pick.Goals as goal
 within : (c : goal.Then-k-n) → c.args.from + c.args.k < length c.args.words.now
 within c = pick_within c.args.words.now c.args.from c.in-Some.n c.args.k c.in-Some.ensures.measures_clause c.if-k-n.true
 
-pub overflow-add-result : goal.overflow-add-result
-overflow-add-result c = let h = within c in search rules
+pub overflow_add-result : goal.overflow_add-result
+overflow_add-result c = let h = within c in search rules
 
-pub offset-bounds-words-from : goal.offset-bounds-words-from
-offset-bounds-words-from c = let h = within c in search rules
+pub offset_bounds-words-from : goal.offset_bounds-words-from
+offset_bounds-words-from c = let h = within c in search rules
 
 pub bounds-words-from : goal.bounds-words-from
 bounds-words-from c = within c

@@ -14,4 +14,4 @@ loop-u-preserved c =
     let u = c.loop-u.u in
     let end = c.args.horizon in
     let e = ap length (slot_more p w u end c.loop-u-test.true) ∙ length-append (slot_lines p w u) (slots_from p w (u + 1) (end - (u + 1))) in
-    (omega (arith, e, c.loop-u.invariant.0, c.count-slot-n.ensures.counts_slot), omega (arith, c.loop-u.invariant.1, c.count-slot-n.ensures.few))
+    (omega (arith, e, c.loop-u.invariant.0, c.count_slot-n.ensures.counts_slot), omega (arith, c.loop-u.invariant.1, c.count_slot-n.ensures.few))

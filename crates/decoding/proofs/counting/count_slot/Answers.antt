@@ -4,7 +4,7 @@ use Rattle.problem.specs.Tables.{means}
 use Rattle.checking.specs.Told.{told}
 use Rattle.decoding.proofs.Lines.{step_in, step_out}
 use Rattle.decoding.proofs.counting.count_slot.Goals as goal
-use Rattle.decoding.proofs.counting.count_slot.Goals.{then-has-step, else-has-step}
+use Rattle.decoding.proofs.counting.count_slot.Goals.{then-has_step, else-has_step}
 
 pub loop-a-preserved : goal.loop-a-preserved
 loop-a-preserved c =
@@ -12,7 +12,7 @@ loop-a-preserved c =
     let a = c.loop-a.a in
     let end = c.args.table.now.steps + 1 in
     let l : a < end = omega arith in
-    elim c.if-has-step.branch [
-      | then-has-step k ↦ let e = ap length (step_in (means c.args.table.now) w c.args.u a end l (sym k.if-has-step.ensures.answers_step)) in (omega (arith, e, k.n-is, c.loop-a.invariant.0), omega (arith, k.n-is, c.loop-a.invariant.1))
-      | else-has-step k ↦ let e = ap length (step_out (means c.args.table.now) w c.args.u a end l (sym k.if-has-step.ensures.answers_step)) in (omega (arith, e, k.n-is, c.loop-a.invariant.0), omega (arith, k.n-is, c.loop-a.invariant.1))
+    elim c.if-has_step.branch [
+      | then-has_step k ↦ let e = ap length (step_in (means c.args.table.now) w c.args.u a end l (sym k.if-has_step.ensures.answers_step)) in (omega (arith, e, k.n-is, c.loop-a.invariant.0), omega (arith, k.n-is, c.loop-a.invariant.1))
+      | else-has_step k ↦ let e = ap length (step_out (means c.args.table.now) w c.args.u a end l (sym k.if-has_step.ensures.answers_step)) in (omega (arith, e, k.n-is, c.loop-a.invariant.0), omega (arith, k.n-is, c.loop-a.invariant.1))
     ]

@@ -22,13 +22,13 @@ returns g c =
     let t = c.args.horizon in
     let bs = c.args.truth.now in
     let law = formula_means_sheets_lem p (lawful_sound s c.args.problem.now.lawful) rule (g.met.R.SlotRule.lawful c.args.rule.now) t in
-    let d = subst (λ (q : Problem). Decodes q rule t bs c.args.sheet.now c.decode-by.result c.decode-by.new.sheet) c.table.ensures.states_the_problem c.decode-by.ensures.decodes in
+    let d = subst (λ (q : Problem). Decodes q rule t bs c.args.sheet.now c.decode_by.result c.decode_by.new.sheet) c.table.ensures.states_the_problem c.decode_by.ensures.decodes in
     record {
       refuses_in_order = d.answers;
       holds_the_sheet = d.holds;
       leaves_the_rest = d.rest;
       keeps_room = d.same_room;
       keeps_loan = d.same_loan;
-      gives_a_sheet = λ ok. subst (λ (ls : L.List Line). SheetOfModel p rule t bs ls) (sym (d.holds ∙ cond-true _ _ _ ok)) (sheet_of_model p rule t law bs (model_of p rule t bs _ _ d.answers (grant_zero c.decode-by.result ok)));
+      gives_a_sheet = λ ok. subst (λ (ls : L.List Line). SheetOfModel p rule t bs ls) (sym (d.holds ∙ cond-true _ _ _ ok)) (sheet_of_model p rule t law bs (model_of p rule t bs _ _ d.answers (grant_zero c.decode_by.result ok)));
       undoes_assign = undoes_assign_lem p rule t law (room c.args.sheet.now);
     }

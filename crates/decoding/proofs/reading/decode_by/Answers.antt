@@ -8,15 +8,15 @@ use Rattle.checking.specs.Told.{told, TruthBytes}
 use Rattle.decoding.proofs.Refusing.{refuse_9, grant}
 use Rattle.decoding.proofs.reading.decode_by.Goals as goal
 
-pub returns-then-count-lines-capacity : goal.returns-then-count-lines-capacity
-returns-then-count-lines-capacity g c =
+pub returns-then-count_lines-capacity : goal.returns-then-count_lines-capacity
+returns-then-count_lines-capacity g c =
     let p = means c.args.table.now in
     let bs = c.args.truth.now in
-    let bytes : TruthBytes (vars p c.args.horizon) bs = record { long = c.if-truth-variables.false; bits = c.if-not-all-bits.ensures.answers_bits } in
-    let l : room c.args.sheet.now < length (sheet_of p c.args.horizon (value (told bs))) = omega (arith, c.count-lines.ensures.counts_lines, c.capacity.ensures.answers_room, c.if-count-lines-capacity.true) in
+    let bytes : TruthBytes (vars p c.args.horizon) bs = record { long = c.if-truth-variables.false; bits = c.if-not-all_bits.ensures.answers_bits } in
+    let l : room c.args.sheet.now < length (sheet_of p c.args.horizon (value (told bs))) = omega (arith, c.count_lines.ensures.counts_lines, c.capacity.ensures.answers_room, c.if-count_lines-capacity.true) in
     record {
       decodes = record {
-        answers = refuse_9 p (g.R.SlotRule.parts c.args.rule.now) c.args.horizon bs _ c.if-horizon-gt32.false bytes c.if-not-meets-formula.ensures.answers_satisfaction l;
+        answers = refuse_9 p (g.R.SlotRule.parts c.args.rule.now) c.args.horizon bs _ c.if-horizon-gt32.false bytes c.if-not-meets_formula.ensures.answers_satisfaction l;
         holds = refl;
         rest = refl;
         same_room = refl;
@@ -28,14 +28,14 @@ pub returns : goal.returns
 returns g c =
     let p = means c.args.table.now in
     let bs = c.args.truth.now in
-    let bytes : TruthBytes (vars p c.args.horizon) bs = record { long = c.if-truth-variables.false; bits = c.if-not-all-bits.ensures.answers_bits } in
-    let l : length (sheet_of p c.args.horizon (value (told bs))) ≤ room c.args.sheet.now = omega (arith, c.count-lines.ensures.counts_lines, c.capacity.ensures.answers_room, c.if-count-lines-capacity.false) in
+    let bytes : TruthBytes (vars p c.args.horizon) bs = record { long = c.if-truth-variables.false; bits = c.if-not-all_bits.ensures.answers_bits } in
+    let l : length (sheet_of p c.args.horizon (value (told bs))) ≤ room c.args.sheet.now = omega (arith, c.count_lines.ensures.counts_lines, c.capacity.ensures.answers_room, c.if-count_lines-capacity.false) in
     record {
       decodes = record {
-        answers = grant p (g.R.SlotRule.parts c.args.rule.now) c.args.horizon bs _ c.if-horizon-gt32.false bytes c.if-not-meets-formula.ensures.answers_satisfaction l;
-        holds = c.write-sheet.ensures.holds;
-        rest = c.write-sheet.ensures.rest;
-        same_room = c.write-sheet.ensures.same_room;
-        same_loan = c.write-sheet.ensures.same_loan;
+        answers = grant p (g.R.SlotRule.parts c.args.rule.now) c.args.horizon bs _ c.if-horizon-gt32.false bytes c.if-not-meets_formula.ensures.answers_satisfaction l;
+        holds = c.write_sheet.ensures.holds;
+        rest = c.write_sheet.ensures.rest;
+        same_room = c.write_sheet.ensures.same_room;
+        same_loan = c.write_sheet.ensures.same_loan;
       };
     }

@@ -9,7 +9,7 @@ use Rattle.decoding.specs.Added.{lines_from, slot_lines}
 use Rattle.decoding.proofs.Adding.{Way, way_more, written_none, added}
 use Rattle.decoding.proofs.Lines.{line, step_in, step_out}
 use Rattle.decoding.proofs.writing.write_slot.Goals as goal
-use Rattle.decoding.proofs.writing.write_slot.Goals.{then-has-step, else-has-step}
+use Rattle.decoding.proofs.writing.write_slot.Goals.{then-has_step, else-has_step}
 
 pub loop-a-preserved : goal.loop-a-preserved
 loop-a-preserved c =
@@ -24,13 +24,13 @@ loop-a-preserved c =
     let next = lines_from p w u (a + 1) (end - (a + 1)) in
     let start = c.args.sheet.now in
     let before = c.loop-a.sheet in
-    elim c.if-has-step.branch [
-      | then-has-step k ↦
-          let e = step_in p w u a end l (sym k.if-has-step.ensures.answers_step) in
+    elim c.if-has_step.branch [
+      | then-has_step k ↦
+          let e = step_in p w u a end l (sym k.if-has_step.ensures.answers_step) in
           let fits : length (items before) < room before = omega (arith, ap length e, c.loop-a.invariant.0) in
           let one = added before k.add.new.self (line (u + 1) a) k.add.result k.add.ensures.refuses_when_full k.add.ensures.adds_item k.add.ensures.takes_spare k.add.ensures.keeps_room k.add.ensures.keeps_loan fits in
           subst (λ (b : List Line). Way start all b next) (sym k.sheet-is) (way_more start before k.add.new.self all left (line (u + 1) a ∷ []) next e c.loop-a.invariant one)
-      | else-has-step k ↦
-          let e : left ≡ next = step_out p w u a end l (sym k.if-has-step.ensures.answers_step) in
+      | else-has_step k ↦
+          let e : left ≡ next = step_out p w u a end l (sym k.if-has_step.ensures.answers_step) in
           subst (λ (b : List Line). Way start all b next) (sym k.sheet-is) (way_more start before before all left [] next e c.loop-a.invariant (written_none before))
     ]

@@ -9,8 +9,8 @@ use Rattle.decoding.proofs.Adding.{way_more}
 use Rattle.decoding.proofs.Lines.{slot_more}
 use Rattle.decoding.proofs.writing.write_slots.Goals as goal
 
-pub write-slot-requires : goal.write-slot-requires
-write-slot-requires c =
+pub write_slot-requires : goal.write_slot-requires
+write_slot-requires c =
     let p = means c.args.table.now in
     let w = value (told c.args.truth.now) in
     let u = c.loop-u.u in
@@ -24,4 +24,4 @@ loop-u-preserved c =
     let w = value (told c.args.truth.now) in
     let u = c.loop-u.u in
     let end = c.args.horizon in
-    way_more c.args.sheet.now c.loop-u.sheet c.write-slot.new.sheet (sheet_of p end w) (slots_from p w u (end - u)) (slot_lines p w u) (slots_from p w (u + 1) (end - (u + 1))) (slot_more p w u end c.loop-u-test.true) c.loop-u.invariant c.write-slot.ensures.writes_slot
+    way_more c.args.sheet.now c.loop-u.sheet c.write_slot.new.sheet (sheet_of p end w) (slots_from p w u (end - u)) (slot_lines p w u) (slots_from p w (u + 1) (end - (u + 1))) (slot_more p w u end c.loop-u-test.true) c.loop-u.invariant c.write_slot.ensures.writes_slot

@@ -16,6 +16,6 @@ returns c =
     let b : length ys ≤ 128 = omega (arith, length_total ys, few_goals (λ _. 1) p t.few.0 t.few.1 single (λ c l. omega arith) (λ c l. omega arith) c.args.horizon) in
     let d : literals xs ≤ 128 = few_starts length p t.few.0 t.few.1 single (λ c l. l) (λ c l. l) in
     let e : literals ys ≤ 128 = few_goals length p t.few.0 t.few.1 single (λ c l. l) (λ c l. l) c.args.horizon in
-    let i = tallied xs _ _ _ c.each-start.ensures.visits_starts (omega arith) (omega arith) in
-    let j = tallied ys _ _ _ c.each-goal.ensures.visits_goals (omega (arith, i.0)) (omega (arith, i.1)) in
+    let i = tallied xs _ _ _ c.each_start.ensures.visits_starts (omega arith) (omega arith) in
+    let j = tallied ys _ _ _ c.each_goal.ensures.visits_goals (omega (arith, i.0)) (omega (arith, i.1)) in
     record { clauses = omega (arith, i.0, j.0); literals = omega (arith, i.1, j.1); few = (omega (arith, i.0, j.0), omega (arith, i.1, j.1)) }

@@ -13,5 +13,5 @@ returns g c =
     let xs = slot_clauses p rule 0 in
     let a : length xs ≤ 98560 = omega (arith, length_total xs, few_slot (λ _. 1) p t.few.0 t.few.1 rule (λ c l. omega arith) (λ c l. omega arith) 0) in
     let b : literals xs ≤ 98560 = few_slot length p t.few.0 t.few.1 rule (λ c l. l) (λ c l. l) 0 in
-    let i = tallied xs _ _ _ c.each-of-slot.ensures.visits_slot (omega arith) (omega arith) in
+    let i = tallied xs _ _ _ c.each_of_slot.ensures.visits_slot (omega arith) (omega arith) in
     record { clauses = omega (arith, i.0); literals = omega (arith, i.1); few = (omega (arith, i.0), omega (arith, i.1)) }

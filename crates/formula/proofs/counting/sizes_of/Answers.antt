@@ -8,17 +8,17 @@ use Rattle.formula.proofs.counting.sizes_of.Goals as goal
 clauses_fit_lem : (t n : ℕ) → t ≤ 65536 → n ≤ 98560 → t * n ≤ 6459228160
 clauses_fit_lem t n h k = mul-le-mul h k
 
-pub overflow-mul-result : goal.overflow-mul-result
-overflow-mul-result g c = omega (arith, clauses_fit_lem c.args.horizon c.count-slot-slot.result.clauses (omega arith) c.count-slot-slot.ensures.few.0)
+pub overflow_mul-result : goal.overflow_mul-result
+overflow_mul-result g c = omega (arith, clauses_fit_lem c.args.horizon c.count_slot-slot.result.clauses (omega arith) c.count_slot-slot.ensures.few.0)
 
-pub overflow-add-result : goal.overflow-add-result
-overflow-add-result g c = omega (arith, clauses_fit_lem c.args.horizon c.count-slot-slot.result.clauses (omega arith) c.count-slot-slot.ensures.few.0, c.count-ends-ends.ensures.few.0)
+pub overflow_add-result : goal.overflow_add-result
+overflow_add-result g c = omega (arith, clauses_fit_lem c.args.horizon c.count_slot-slot.result.clauses (omega arith) c.count_slot-slot.ensures.few.0, c.count_ends-ends.ensures.few.0)
 
-pub overflow-mul-result-2 : goal.overflow-mul-result-2
-overflow-mul-result-2 g c = omega (arith, clauses_fit_lem c.args.horizon c.count-slot-slot.result.literals (omega arith) c.count-slot-slot.ensures.few.1)
+pub overflow_mul-result-2 : goal.overflow_mul-result-2
+overflow_mul-result-2 g c = omega (arith, clauses_fit_lem c.args.horizon c.count_slot-slot.result.literals (omega arith) c.count_slot-slot.ensures.few.1)
 
-pub overflow-add-result-2 : goal.overflow-add-result-2
-overflow-add-result-2 g c = omega (arith, clauses_fit_lem c.args.horizon c.count-slot-slot.result.literals (omega arith) c.count-slot-slot.ensures.few.1, c.count-ends-ends.ensures.few.1)
+pub overflow_add-result-2 : goal.overflow_add-result-2
+overflow_add-result-2 g c = omega (arith, clauses_fit_lem c.args.horizon c.count_slot-slot.result.literals (omega arith) c.count_slot-slot.ensures.few.1, c.count_ends-ends.ensures.few.1)
 
 same : (t a b k l y z : ℕ) → a ≡ b → k ≡ l → y ≡ z → a + (t * k + y) ≡ b + (t * l + z)
 same t a b k l y z p q r = let m : t * k ≡ t * l = ap (λ n. t * n) q in omega (arith, p, m, r)
@@ -32,8 +32,8 @@ returns g c =
     let p = means c.args.table.now in
     let rule = g.R.SlotRule.parts c.args.rule.now in
     let t = c.args.horizon in
-    let ends = c.count-ends-ends.ensures in
-    let slot = c.count-slot-slot.ensures in
+    let ends = c.count_ends-ends.ensures in
+    let slot = c.count_slot-slot.ensures in
     let ones : length (formula p rule t) ≡ length (start_clauses p) + (t * length (slot_clauses p rule 0) + length (goal_clauses p t)) =
     length_total (formula p rule t) ∙ formula_total (λ _. 1) p rule t ∙ same t _ _ _ _ _ _ (sym (length_total (start_clauses p))) (sym (length_total (slot_clauses p rule 0))) (sym (length_total (goal_clauses p t))) in
     record {

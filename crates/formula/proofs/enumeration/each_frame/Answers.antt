@@ -9,12 +9,12 @@ pub loop-f-init : goal.loop-f-init
 loop-f-init g c = along_none (g.V.ClauseVisitor.one c.args.v.now) (frame_cell (means c.args.table.now) c.args.u) _ _ _ _ (omega arith)
 
 pub loop-f-preserved : goal.loop-f-preserved
-loop-f-preserved g c = along_more (g.V.ClauseVisitor.one c.args.v.now) (frame_cell (means c.args.table.now) c.args.u) _ _ _ _ _ _ c.loop-f.invariant c.loop-f-test.true c.in-ok-frame-pair.ensures.visits_pair
+loop-f-preserved g c = along_more (g.V.ClauseVisitor.one c.args.v.now) (frame_cell (means c.args.table.now) c.args.u) _ _ _ _ _ _ c.loop-f.invariant c.loop-f-test.true c.in_ok-frame_pair.ensures.visits_pair
 
 pub returns : goal.returns
 returns g c = record { visits_frames = along_end (g.V.ClauseVisitor.one c.args.v.now) (frame_cell (means c.args.table.now) c.args.u) _ _ _ _ _ c.loop-f.invariant c.loop-f-test.false }
 
-pub returns-in-err-frame-pair : goal.returns-in-err-frame-pair
-returns-in-err-frame-pair g c =
-    let p = err_from_is_err_and c.from-residual.result c.from-residual.ensures.1 in
-    record { visits_frames = rw (p.1, p.2) (along_stop (g.V.ClauseVisitor.one c.args.v.now) (frame_cell (means c.args.table.now) c.args.u) _ _ _ _ _ _ _ c.loop-f.invariant c.loop-f-test.true c.in-err-frame-pair.ensures.visits_pair) }
+pub returns-in_err-frame_pair : goal.returns-in_err-frame_pair
+returns-in_err-frame_pair g c =
+    let p = err_from_is_err_and c.from_residual.result c.from_residual.ensures.1 in
+    record { visits_frames = rw (p.1, p.2) (along_stop (g.V.ClauseVisitor.one c.args.v.now) (frame_cell (means c.args.table.now) c.args.u) _ _ _ _ _ _ _ c.loop-f.invariant c.loop-f-test.true c.in_err-frame_pair.ensures.visits_pair) }

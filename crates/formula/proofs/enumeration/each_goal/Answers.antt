@@ -9,12 +9,12 @@ pub loop-f-init : goal.loop-f-init
 loop-f-init g c = along_none (g.V.ClauseVisitor.one c.args.v.now) (goal_cell (means c.args.table.now) c.args.horizon) _ _ _ _ (omega arith)
 
 pub loop-f-preserved : goal.loop-f-preserved
-loop-f-preserved g c = along_more (g.V.ClauseVisitor.one c.args.v.now) (goal_cell (means c.args.table.now) c.args.horizon) _ _ _ _ _ _ c.loop-f.invariant c.loop-f-test.true c.in-ok-goal-clause.ensures.visits_goal
+loop-f-preserved g c = along_more (g.V.ClauseVisitor.one c.args.v.now) (goal_cell (means c.args.table.now) c.args.horizon) _ _ _ _ _ _ c.loop-f.invariant c.loop-f-test.true c.in_ok-goal_clause.ensures.visits_goal
 
 pub returns : goal.returns
 returns g c = record { visits_goals = along_end (g.V.ClauseVisitor.one c.args.v.now) (goal_cell (means c.args.table.now) c.args.horizon) _ _ _ _ _ c.loop-f.invariant c.loop-f-test.false }
 
-pub returns-in-err-goal-clause : goal.returns-in-err-goal-clause
-returns-in-err-goal-clause g c =
-    let p = err_from_is_err_and c.from-residual.result c.from-residual.ensures.1 in
-    record { visits_goals = rw (p.1, p.2) (along_stop (g.V.ClauseVisitor.one c.args.v.now) (goal_cell (means c.args.table.now) c.args.horizon) _ _ _ _ _ _ _ c.loop-f.invariant c.loop-f-test.true c.in-err-goal-clause.ensures.visits_goal) }
+pub returns-in_err-goal_clause : goal.returns-in_err-goal_clause
+returns-in_err-goal_clause g c =
+    let p = err_from_is_err_and c.from_residual.result c.from_residual.ensures.1 in
+    record { visits_goals = rw (p.1, p.2) (along_stop (g.V.ClauseVisitor.one c.args.v.now) (goal_cell (means c.args.table.now) c.args.horizon) _ _ _ _ _ _ _ c.loop-f.invariant c.loop-f-test.true c.in_err-goal_clause.ensures.visits_goal) }

@@ -13,7 +13,7 @@ pub loop-b-init : goal.loop-b-init
 loop-b-init g c = along_none (g.V.ClauseVisitor.one c.args.v.now) (parted_cell (means c.args.table.now) (g.R.SlotRule.parts c.args.rule.now) c.args.u c.loop-a.a) _ _ _ _ (omega arith)
 
 pub loop-b-preserved : goal.loop-b-preserved
-loop-b-preserved g c = along_more (g.V.ClauseVisitor.one c.args.v.now) (parted_cell (means c.args.table.now) (g.R.SlotRule.parts c.args.rule.now) c.args.u c.loop-a.a) _ _ _ _ _ _ c.loop-b.invariant c.loop-b-test.true c.in-ok-parted-clause.ensures.visits_parted
+loop-b-preserved g c = along_more (g.V.ClauseVisitor.one c.args.v.now) (parted_cell (means c.args.table.now) (g.R.SlotRule.parts c.args.rule.now) c.args.u c.loop-a.a) _ _ _ _ _ _ c.loop-b.invariant c.loop-b-test.true c.in_ok-parted_clause.ensures.visits_parted
 
 pub loop-a-preserved : goal.loop-a-preserved
 loop-a-preserved g c =
@@ -23,12 +23,12 @@ loop-a-preserved g c =
 pub returns : goal.returns
 returns g c = record { visits_all_parted = along_end (g.V.ClauseVisitor.one c.args.v.now) (parted_row (means c.args.table.now) (g.R.SlotRule.parts c.args.rule.now) c.args.u) _ _ _ _ _ c.loop-a.invariant c.loop-a-test.false }
 
-pub returns-in-err-parted-clause : goal.returns-in-err-parted-clause
-returns-in-err-parted-clause g c =
-    let p = err_from_is_err_and c.from-residual.result c.from-residual.ensures.1 in
+pub returns-in_err-parted_clause : goal.returns-in_err-parted_clause
+returns-in_err-parted_clause g c =
+    let p = err_from_is_err_and c.from_residual.result c.from_residual.ensures.1 in
     record {
       visits_all_parted =
           rw (p.1, p.2)
           (along_stop (g.V.ClauseVisitor.one c.args.v.now) (parted_row (means c.args.table.now) (g.R.SlotRule.parts c.args.rule.now) c.args.u) _ _ _ _ _ _ _ c.loop-a.invariant c.loop-a-test.true
-          (along_stop (g.V.ClauseVisitor.one c.args.v.now) (parted_cell (means c.args.table.now) (g.R.SlotRule.parts c.args.rule.now) c.args.u c.loop-a.a) _ _ _ _ _ _ _ c.loop-b.invariant c.loop-b-test.true c.in-err-parted-clause.ensures.visits_parted));
+          (along_stop (g.V.ClauseVisitor.one c.args.v.now) (parted_cell (means c.args.table.now) (g.R.SlotRule.parts c.args.rule.now) c.args.u c.loop-a.a) _ _ _ _ _ _ _ c.loop-b.invariant c.loop-b-test.true c.in_err-parted_clause.ensures.visits_parted));
     }

@@ -18,13 +18,13 @@ returns g c =
     let t : SFits w32 c.nay.result = search rules in
     let x : SFits w32 c.nay-2.result = search rules in
     let y : SFits w32 c.aye-2.result = search rules in
-    let here = c.fact-variable-before.ensures.value in
-    let next : c.fact-variable-after.result ≡ fact_var p (suc u) f = c.fact-variable-after.ensures.value ∙ ap (λ n. fact_var p n f) (add-one u) in
+    let here = c.fact_variable-before.ensures.value in
+    let next : c.fact_variable-after.result ≡ fact_var p (suc u) f = c.fact_variable-after.ensures.value ∙ ap (λ n. fact_var p n f) (add-one u) in
     let is = heads_is _ _ _ _ (doers p Sets u f (steps_of p)) (word_is _ _ s (c.aye.ensures.positive ∙ ap pos here)) (word_is _ _ t (c.nay.ensures.negative ∙ ap (λ n. neg_ℤ (pos n)) next)) in
     let js = heads_is _ _ _ _ (doers p Clears u f (steps_of p)) (word_is _ _ x (c.nay-2.ensures.negative ∙ ap (λ n. neg_ℤ (pos n)) here)) (word_is _ _ y (c.aye-2.ensures.positive ∙ ap pos next)) in
     record {
       visits_pair =
-          visits_then one (comes p u f ∷ []) (goes p u f ∷ []) c.args.state.now c.frame-clause.new.state _ _
-          (visits_as one _ _ _ _ (Ok tt) is c.in-ok-frame-clause.ensures.visits_frame)
-          (visits_as one _ _ _ _ _ js c.frame-clause-2.ensures.visits_frame);
+          visits_then one (comes p u f ∷ []) (goes p u f ∷ []) c.args.state.now c.frame_clause.new.state _ _
+          (visits_as one _ _ _ _ (Ok tt) is c.in_ok-frame_clause.ensures.visits_frame)
+          (visits_as one _ _ _ _ _ js c.frame_clause-2.ensures.visits_frame);
     }

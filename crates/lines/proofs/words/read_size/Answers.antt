@@ -20,4 +20,4 @@ pub loop-b-preserved : goal.loop-b-preserved
 loop-b-preserved c = left_more c.args.most c.args.digits.now c.loop-b.n c.loop-b.b-index c.loop-b.invariant (omega arith) (grind (arith, nat_tests)) (omega arith)
 
 pub returns : goal.returns
-returns c = record { reads_size = all_read c.args.most c.args.digits.now c.loop-b.n c.loop-b.b-index c.loop-b.invariant (omega arith) (grind (arith, nat_tests, c.if-is-empty.ensures, c.if-digits-gt1.either)) }
+returns c = record { reads_size = all_read c.args.most c.args.digits.now c.loop-b.n c.loop-b.b-index c.loop-b.invariant (omega arith) (grind (arith, nat_tests, c.if-is_empty.ensures, c.if-digits-gt1.either)) }

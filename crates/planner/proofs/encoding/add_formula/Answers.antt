@@ -17,5 +17,5 @@ returns g c =
     let good = formula_good p rule c.args.horizon (g.S.Source.widest sink) t.few.1 c.requires.1.0 in
     let none : total cost (g.S.Source.held sink) ≡ 0 = ap (total cost) c.requires.0 in
     let fits : total cost (g.S.Source.held sink) + total cost all ≤ g.S.Sink.capacity sink = omega (arith, none, c.requires.1.1) in
-    let i = added_all g.S.Source.held g.S.Source.widest g.S.Sink.capacity cost g.S.Sink.free g.S.Sink.lent all sink c.each-clause.new.state _ c.each-clause.ensures.visits_formula good fits in
+    let i = added_all g.S.Source.held g.S.Source.widest g.S.Sink.capacity cost g.S.Sink.free g.S.Sink.lent all sink c.each_clause.new.state _ c.each_clause.ensures.visits_formula good fits in
     record { grants = i.grants; holds = i.holds ∙ ap (λ (cs : List Clause). cs ++ all) c.requires.0; rest = i.rest; kept = i.kept }

@@ -13,5 +13,5 @@ returns g c =
     let all = formula p rule c.args.horizon in
     let cost = g.S.Sink.cost in
     let fits : total cost all < 2 ^ 64 = cost_fits p t.few.0 t.few.1 rule c.args.horizon c.requires cost g.S.Sink.cheap in
-    let sum = costed cost all 0 c.each-clause.new.state _ c.each-clause.ensures.visits_formula (omega (arith, fits)) in
+    let sum = costed cost all 0 c.each_clause.new.state _ c.each_clause.ensures.visits_formula (omega (arith, fits)) in
     record { sums_costs = omega (arith, sum) }

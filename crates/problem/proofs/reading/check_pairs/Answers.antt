@@ -5,11 +5,11 @@ use Rattle.problem.proofs.Refused.{refused}
 use Rattle.problem.proofs.reading.check_pairs.Goals as goal
 
 -- the refusal of pair i is that of the first i + 1 pairs, and stays
-pub returns-in-err-check-pair : goal.returns-in-err-check-pair
-returns-in-err-check-pair c =
-    let p = err_from_is_err_and c.from-residual.result c.from-residual.ensures.1 in
-    let here = c.in-err-check-pair.ensures.first_broken ∙ sym (scan_more c.args.s.now c.loop-i.i c.loop-i.invariant) in
+pub returns-in_err-check_pair : goal.returns-in_err-check_pair
+returns-in_err-check_pair c =
+    let p = err_from_is_err_and c.from_residual.result c.from_residual.ensures.1 in
+    let here = c.in_err-check_pair.ensures.first_broken ∙ sym (scan_more c.args.s.now c.loop-i.i c.loop-i.invariant) in
     record { first_broken = rw (p.1, p.2) (here ∙ sym (scan_stays c.args.s.now (c.loop-i.i + 1) c.args.pairs (omega arith) (λ z. refused _ (here ∙ z)))) }
 
 pub loop-i-preserved : goal.loop-i-preserved
-loop-i-preserved c = scan_more c.args.s.now c.loop-i.i c.loop-i.invariant ∙ sym c.in-ok-check-pair.ensures.first_broken
+loop-i-preserved c = scan_more c.args.s.now c.loop-i.i c.loop-i.invariant ∙ sym c.in_ok-check_pair.ensures.first_broken

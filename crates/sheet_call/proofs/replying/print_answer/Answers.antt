@@ -5,8 +5,8 @@ use Rattle.sheet_call.proofs.ModelTold.{made_so}
 use Rattle.sheet_call.proofs.AnswersTold.{truth_bytes, only_13}
 use Rattle.sheet_call.proofs.replying.print_answer.Goals as goal
 
-pub print-model-requires : goal.print-model-requires
-print-model-requires g c =
+pub print_model-requires : goal.print_model-requires
+print_model-requires g c =
     let told = c.in-Ok-Satisfiable.ensures.answers_by_case in
     (c.requires.0, truth_bytes (length c.args.truth.now) _ (told .literals) _ c.requires.1 (told .told))
 
@@ -14,4 +14,4 @@ pub returns-in-Err : goal.returns-in-Err
 returns-in-Err g c =
     let p = problem_of c.args.problem.now.bytes.now in
     let told = c.in-Err.ensures.answers_by_case in
-    record { prints_answer = made_so c.refused-text.result _ _ (λ out e. inr (only_13 p c.args.horizon (length c.args.truth.now) c.args.answer.now c.args.truth.now _ c.in-Err.refusal refl c.requires.1 told _ e)) c.refused-text.ensures.prints_refusal }
+    record { prints_answer = made_so c.refused_text.result _ _ (λ out e. inr (only_13 p c.args.horizon (length c.args.truth.now) c.args.answer.now c.args.truth.now _ c.in-Err.refusal refl c.requires.1 told _ e)) c.refused_text.ensures.prints_refusal }

@@ -24,9 +24,9 @@ returns-in-Err g c =
     let long : length c.deref-mut.result.now ≡ 4096 = search rules in
     let space : room c.new-sheet.result ≡ 4096 = omega (arith, c.new-sheet.ensures.has_room, long) in
     let only = only_15 p rule t truth (room c.new-sheet.result) c.in-Err.refusal c.requires.0 c.requires.1 (omega (arith, short, space)) c.in-Err.ensures.refuses_in_order in
-    record { prints_model = made_so c.refused-text.result _ _ (λ out e. inr (record { none = only.0; text = e ∙ ap refused_line only.1 })) c.refused-text.ensures.prints_refusal }
+    record { prints_model = made_so c.refused_text.result _ _ (λ out e. inr (record { none = only.0; text = e ∙ ap refused_line only.1 })) c.refused_text.ensures.prints_refusal }
 
 pub returns : goal.returns
 returns g c =
-    let sheet = c.in-default.ensures.gives_a_sheet refl in
-    record { prints_model = made_so c.sheet_text.result _ _ (λ out e. inl (record { lines = items c.decode.new.sheet; sheet = sheet.sheet; holds = sheet.holds; modelled = sheet.modelled; text = e ∙ ap sheet_text c.as-slice.ensures.shows_items })) c.sheet_text.ensures.prints_lines }
+    let sheet = c.in_default.ensures.gives_a_sheet refl in
+    record { prints_model = made_so c.sheet_text.result _ _ (λ out e. inl (record { lines = items c.decode.new.sheet; sheet = sheet.sheet; holds = sheet.holds; modelled = sheet.modelled; text = e ∙ ap sheet_text c.as_slice.ensures.shows_items })) c.sheet_text.ensures.prints_lines }

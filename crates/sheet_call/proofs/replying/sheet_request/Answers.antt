@@ -8,20 +8,20 @@ use Rattle.sheet_call.proofs.ModelTold.{made_so}
 use Rattle.sheet_call.proofs.Inputs.{bad_problem, good_problem}
 use Rattle.sheet_call.proofs.replying.sheet_request.Goals as goal
 
-pub returns-in-Err-read-problem : goal.returns-in-Err-read-problem
-returns-in-Err-read-problem c =
+pub returns-in-Err-read_problem : goal.returns-in-Err-read_problem
+returns-in-Err-read_problem c =
     let s = c.args.input.now in
     let asked = c.in-Ok.ensures.checks_in_order in
-    let told = bad_problem s (take (length s - 4) (drop 4 s)) (take_rest s 4) c.problem-end-end.result c.problem-end-end.ensures.ends_problem asked.0 in
-    record { prints_told = made_so c.refused-text_in-Err-read-problem.result _ _ (λ out e. told _ _ c.in-Err-read-problem.ensures.first_broken_rule (refused c.in-Err-read-problem.refusal) e) c.refused-text_in-Err-read-problem.ensures.prints_refusal }
+    let told = bad_problem s (take (length s - 4) (drop 4 s)) (take_rest s 4) c.problem_end-end.result c.problem_end-end.ensures.ends_problem asked.0 in
+    record { prints_told = made_so c.refused-text_in-Err-read_problem.result _ _ (λ out e. told _ _ c.in-Err-read_problem.ensures.first_broken_rule (refused c.in-Err-read_problem.refusal) e) c.refused-text_in-Err-read_problem.ensures.prints_refusal }
 
-pub print-reply-requires : goal.print-reply-requires
-print-reply-requires c =
+pub print_reply-requires : goal.print_reply-requires
+print_reply-requires c =
     let asked = c.in-Ok.ensures.checks_in_order in
     omega (arith, few_slots c.args.input.now asked.0, asked.1)
 
-pub print-reply-requires-in-Parallel : goal.print-reply-requires-in-Parallel
-print-reply-requires-in-Parallel c =
+pub print_reply-requires-in-Parallel : goal.print_reply-requires-in-Parallel
+print_reply-requires-in-Parallel c =
     let asked = c.in-Ok.ensures.checks_in_order in
     omega (arith, few_slots c.args.input.now asked.0, asked.1)
 
@@ -29,18 +29,18 @@ pub returns-in-Single : goal.returns-in-Single
 returns-in-Single c =
     let s = c.args.input.now in
     let more = take (length s - 4) (drop 4 s) in
-    let end = c.problem-end-end.result in
+    let end = c.problem_end-end.result in
     let asked = c.in-Ok.ensures.checks_in_order in
-    let read = c.in-default.ensures in
-    let told = good_problem s more (take_rest s 4) end c.problem-end-end.ensures.ends_problem asked.0 single c.in-Ok.request.horizon c.read-problem.new.problem.bytes.now (take (length more - end) (drop end more)) in
-    record { prints_told = made_so c.print-reply.result _ _ (λ out e. told _ read.filled_or_kept read.first_broken_rule (take_rest more end) (rule_1 _ (ap number_of (sym c.in-Single.is) ∙ asked.2)) asked.1 e) c.print-reply.ensures.prints_reply }
+    let read = c.in_default.ensures in
+    let told = good_problem s more (take_rest s 4) end c.problem_end-end.ensures.ends_problem asked.0 single c.in-Ok.request.horizon c.read_problem.new.problem.bytes.now (take (length more - end) (drop end more)) in
+    record { prints_told = made_so c.print_reply.result _ _ (λ out e. told _ read.filled_or_kept read.first_broken_rule (take_rest more end) (rule_1 _ (ap number_of (sym c.in-Single.is) ∙ asked.2)) asked.1 e) c.print_reply.ensures.prints_reply }
 
 pub returns-in-Parallel : goal.returns-in-Parallel
 returns-in-Parallel c =
     let s = c.args.input.now in
     let more = take (length s - 4) (drop 4 s) in
-    let end = c.problem-end-end.result in
+    let end = c.problem_end-end.result in
     let asked = c.in-Ok.ensures.checks_in_order in
-    let read = c.in-default.ensures in
-    let told = good_problem s more (take_rest s 4) end c.problem-end-end.ensures.ends_problem asked.0 parallel c.in-Ok.request.horizon c.read-problem.new.problem.bytes.now (take (length more - end) (drop end more)) in
-    record { prints_told = made_so c.print-reply-in-Parallel.result _ _ (λ out e. told _ read.filled_or_kept read.first_broken_rule (take_rest more end) (rule_2 _ (ap number_of (sym c.in-Parallel.is) ∙ asked.2)) asked.1 e) c.print-reply-in-Parallel.ensures.prints_reply }
+    let read = c.in_default.ensures in
+    let told = good_problem s more (take_rest s 4) end c.problem_end-end.ensures.ends_problem asked.0 parallel c.in-Ok.request.horizon c.read_problem.new.problem.bytes.now (take (length more - end) (drop end more)) in
+    record { prints_told = made_so c.print_reply-in-Parallel.result _ _ (λ out e. told _ read.filled_or_kept read.first_broken_rule (take_rest more end) (rule_2 _ (ap number_of (sym c.in-Parallel.is) ∙ asked.2)) asked.1 e) c.print_reply-in-Parallel.ensures.prints_reply }

@@ -10,8 +10,8 @@ use Rattle.text.specs.Lines.{literal_text}
 use Rattle.text.proofs.Rendering.{literals_more}
 use Rattle.text.proofs.digits.line_cost.Goals as goal
 
-pub literal-cost-cost-requires : goal.literal-cost-cost-requires
-literal-cost-cost-requires c =
+pub literal_cost-cost-requires : goal.literal_cost-cost-requires
+literal_cost-cost-requires c =
     let xs = c.args.clause.now in
     let i = c.loop-i.i in
     let f : SFits w32 (get_or xs i (pos 0)) = search rules in
@@ -19,17 +19,17 @@ literal-cost-cost-requires c =
     ap (bad_literal 999999) (to_z-of_z w32 (get_or xs i (pos 0)) f) ∙ good_at 999999 xs i good c.loop-i-test.true
 
 -- the literal's bytes
-now-here : (c : goal.After-literal-cost-cost) → (c.literal-cost-cost.result ≡ length (literal_text (get_or c.args.clause.now c.loop-i.i (pos 0)))) × (c.literal-cost-cost.result ≤ 8)
+now-here : (c : goal.After-literal_cost-cost) → (c.literal_cost-cost.result ≡ length (literal_text (get_or c.args.clause.now c.loop-i.i (pos 0)))) × (c.literal_cost-cost.result ≤ 8)
 now-here c =
     let xs = c.args.clause.now in
     let i = c.loop-i.i in
     let f : SFits w32 (get_or xs i (pos 0)) = search rules in
     let good = (or_parts (ltb 130 (length xs)) (any (bad_literal 999999) xs) c.requires).1 in
-    let e = c.literal-cost-cost.ensures.counts_bytes ∙ ap (λ (z : ℤ). length (literal_text z)) (to_z-of_z w32 (get_or xs i (pos 0)) f) in
+    let e = c.literal_cost-cost.ensures.counts_bytes ∙ ap (λ (z : ℤ). length (literal_text z)) (to_z-of_z w32 (get_or xs i (pos 0)) f) in
     (e, omega (arith, e, literal_short (get_or xs i (pos 0)) (good_at 999999 xs i good c.loop-i-test.true)))
 
-pub overflow-add-cost : goal.overflow-add-cost
-overflow-add-cost c =
+pub overflow_add-cost : goal.overflow_add-cost
+overflow_add-cost c =
     let xs = c.args.clause.now in
     let few = ltb-false 130 (length xs) (or_parts (ltb 130 (length xs)) (any (bad_literal 999999) xs) c.requires).0 in
     let h = now-here c in

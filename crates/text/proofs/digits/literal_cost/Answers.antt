@@ -7,30 +7,30 @@ use Rattle.text.specs.Lines.{literal_text}
 use Rattle.text.proofs.Written.{literal_positive, literal_negative}
 use Rattle.text.proofs.digits.literal_cost.Goals as goal
 
-less : (c : goal.Then-l-lt0) → c.digit-count-digits.result + 2 ≡ length (literal_text c.args.l)
+less : (c : goal.Then-l-lt0) → c.digit_count-digits.result + 2 ≡ length (literal_text c.args.l)
 less c =
     let l = c.args.l in
     let same = to_z-of_z w32 l c.ranges.l in
-    let m = c.unsigned-abs.result in
-    let e = literal_negative l m (ap (λ (z : ℤ). lt_z z (pos 0)) (sym same) ∙ c.if-l-lt0.true) (c.unsigned-abs.ensures.value ∙ ap nat_abs same) in
-    omega (arith, ap length e, length-append (decimal m) (32 ∷ []), c.digit-count-digits.ensures.counts_digits)
+    let m = c.unsigned_abs.result in
+    let e = literal_negative l m (ap (λ (z : ℤ). lt_z z (pos 0)) (sym same) ∙ c.if-l-lt0.true) (c.unsigned_abs.ensures.value ∙ ap nat_abs same) in
+    omega (arith, ap length e, length-append (decimal m) (32 ∷ []), c.digit_count-digits.ensures.counts_digits)
 
-more : (c : goal.Else-l-lt0) → c.digit-count-digits.result + 1 ≡ length (literal_text c.args.l)
+more : (c : goal.Else-l-lt0) → c.digit_count-digits.result + 1 ≡ length (literal_text c.args.l)
 more c =
     let l = c.args.l in
     let same = to_z-of_z w32 l c.ranges.l in
-    let m = c.unsigned-abs.result in
-    let e = literal_positive l m (ap (λ (z : ℤ). lt_z z (pos 0)) (sym same) ∙ c.if-l-lt0.false) (c.unsigned-abs.ensures.value ∙ ap nat_abs same) in
-    omega (arith, ap length e, length-append (decimal m) (32 ∷ []), c.digit-count-digits.ensures.counts_digits)
+    let m = c.unsigned_abs.result in
+    let e = literal_positive l m (ap (λ (z : ℤ). lt_z z (pos 0)) (sym same) ∙ c.if-l-lt0.false) (c.unsigned_abs.ensures.value ∙ ap nat_abs same) in
+    omega (arith, ap length e, length-append (decimal m) (32 ∷ []), c.digit_count-digits.ensures.counts_digits)
 
-pub overflow-add-result : goal.overflow-add-result
-overflow-add-result c =
+pub overflow_add-result : goal.overflow_add-result
+overflow_add-result c =
     let e = less c in
     let s = literal_short c.args.l c.requires in
     omega arith
 
-pub overflow-add-result-else-l-lt0 : goal.overflow-add-result-else-l-lt0
-overflow-add-result-else-l-lt0 c =
+pub overflow_add-result-else-l-lt0 : goal.overflow_add-result-else-l-lt0
+overflow_add-result-else-l-lt0 c =
     let e = more c in
     let s = literal_short c.args.l c.requires in
     omega arith

@@ -10,9 +10,9 @@ pub returns-then-b-lt33 : goal.returns-then-b-lt33
 returns-then-b-lt33 c =
     let bs = c.args.text.now in
     let i = c.loop-i.i in
-    let f : SFits w32 c.with-sign.result = search rules in
+    let f : SFits w32 c.with_sign.result = search rules in
     let e = step_end c.loop-i.minus c.loop-i.size bs i c.loop-i-test.true c.if-b-lt33.true in
-    let v = sym c.with-sign.ensures.puts_sign ∙ sym (to_z-of_z w32 c.with-sign.result f) in
+    let v = sym c.with_sign.ensures.puts_sign ∙ sym (to_z-of_z w32 c.with_sign.result f) in
     record { reads_number = (c.loop-i.invariant.1 ∙ e ∙ ap (λ (z : ℤ). z ∷ numbers (drop (i + 1) bs)) v, omega arith, omega arith) }
 
 pub loop-i-preserved : goal.loop-i-preserved

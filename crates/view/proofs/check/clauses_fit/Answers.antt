@@ -5,11 +5,11 @@ use Rattle.view.proofs.check.clauses_fit.Goals as goal
 pub loop-word-init : goal.loop-word-init
 loop-word-init c = (omega arith, omega arith, omega arith, refl)
 
-pub returns-in-default-read-number : goal.returns-in-default-read-number
-returns-in-default-read-number c = record { tells_clauses = turn_refused c.args.variables c.args.clauses c.args.body.now c.loop-word.place c.loop-word.closed c.loop-word.long c.loop-word.invariant.3 c.in-Some.word.now c.in-Some.end c.in-Some.ensures.cuts_word c.in-default-read-number.ensures.reads_number }
+pub returns-in_default-read_number : goal.returns-in_default-read_number
+returns-in_default-read_number c = record { tells_clauses = turn_refused c.args.variables c.args.clauses c.args.body.now c.loop-word.place c.loop-word.closed c.loop-word.long c.loop-word.invariant.3 c.in-Some.word.now c.in-Some.end c.in-Some.ensures.cuts_word c.in_default-read_number.ensures.reads_number }
 
 pub returns-then-long-eq-LONGEST : goal.returns-then-long-eq-LONGEST
-returns-then-long-eq-LONGEST c = record { tells_clauses = turn_long c.args.variables c.args.clauses c.args.body.now c.loop-word.place c.loop-word.closed c.loop-word.long c.loop-word.invariant.3 c.in-Some.word.now c.in-Some.end c.in-Some.ensures.cuts_word c.in-Some-read-number.number c.in-Some-read-number.ensures.reads_number c.if-number-eq0.false c.if-long-eq-LONGEST.true }
+returns-then-long-eq-LONGEST c = record { tells_clauses = turn_long c.args.variables c.args.clauses c.args.body.now c.loop-word.place c.loop-word.closed c.loop-word.long c.loop-word.invariant.3 c.in-Some.word.now c.in-Some.end c.in-Some.ensures.cuts_word c.in-Some-read_number.number c.in-Some-read_number.ensures.reads_number c.if-number-eq0.false c.if-long-eq-LONGEST.true }
 
 pub loop-word-preserved-then-number-eq0 : goal.loop-word-preserved-then-number-eq0
 loop-word-preserved-then-number-eq0 c =
@@ -17,7 +17,7 @@ loop-word-preserved-then-number-eq0 c =
       n.within,
       omega (arith, n.later, c.loop-word.invariant.1),
       omega arith,
-      turn_close c.args.variables c.args.clauses c.args.body.now c.loop-word.place c.loop-word.closed c.loop-word.long c.loop-word.invariant.3 c.in-Some.word.now c.in-Some.end n c.in-Some-read-number.number c.in-Some-read-number.ensures.reads_number c.if-number-eq0.true,
+      turn_close c.args.variables c.args.clauses c.args.body.now c.loop-word.place c.loop-word.closed c.loop-word.long c.loop-word.invariant.3 c.in-Some.word.now c.in-Some.end n c.in-Some-read_number.number c.in-Some-read_number.ensures.reads_number c.if-number-eq0.true,
     )
 
 pub loop-word-preserved : goal.loop-word-preserved
@@ -27,11 +27,11 @@ loop-word-preserved c =
       n.within,
       omega (arith, n.later, c.loop-word.invariant.1),
       omega arith,
-      turn_literal c.args.variables c.args.clauses c.args.body.now c.loop-word.place c.loop-word.closed c.loop-word.long c.loop-word.invariant.3 c.in-Some.word.now c.in-Some.end n c.in-Some-read-number.number c.in-Some-read-number.ensures.reads_number c.if-number-eq0.false room,
+      turn_literal c.args.variables c.args.clauses c.args.body.now c.loop-word.place c.loop-word.closed c.loop-word.long c.loop-word.invariant.3 c.in-Some.word.now c.in-Some.end n c.in-Some-read_number.number c.in-Some-read_number.ensures.reads_number c.if-number-eq0.false room,
     )
 
 pub returns-then-long-eq0 : goal.returns-then-long-eq0
-returns-then-long-eq0 c = record { tells_clauses = over_closed c.args.variables c.args.clauses c.args.body.now c.loop-word.place c.loop-word.closed c.loop-word.long c.loop-word.invariant.3 c.in-default.ensures.cuts_word c.if-long-eq0.true }
+returns-then-long-eq0 c = record { tells_clauses = over_closed c.args.variables c.args.clauses c.args.body.now c.loop-word.place c.loop-word.closed c.loop-word.long c.loop-word.invariant.3 c.in_default.ensures.cuts_word c.if-long-eq0.true }
 
 pub returns-else-long-eq0 : goal.returns-else-long-eq0
-returns-else-long-eq0 c = record { tells_clauses = over_open c.args.variables c.args.clauses c.args.body.now c.loop-word.place c.loop-word.closed c.loop-word.long c.loop-word.invariant.3 c.in-default.ensures.cuts_word c.if-long-eq0.false }
+returns-else-long-eq0 c = record { tells_clauses = over_open c.args.variables c.args.clauses c.args.body.now c.loop-word.place c.loop-word.closed c.loop-word.long c.loop-word.invariant.3 c.in_default.ensures.cuts_word c.if-long-eq0.false }

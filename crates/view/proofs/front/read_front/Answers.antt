@@ -7,15 +7,15 @@ pub loop-line-smaller : goal.loop-line-smaller
 loop-line-smaller c = front_less c.args.text.now c.loop-line.left.now c.in-Some.line.now c.in-Some.rest.now c.in-Some.ensures.cuts_line c.loop-line.invariant.0 c.loop-line.invariant.1
 
 pub loop-line-preserved : goal.loop-line-preserved
-loop-line-preserved c = front_more c.args.text.now c.loop-line.left.now c.in-Some.line.now c.in-Some.rest.now c.in-Some.ensures.cuts_line c.loop-line.invariant.0 c.loop-line.invariant.1 (eqb-true (get_or c.in-Some.line.now 0 0) 99 (sym c.if-is-comment.ensures.tells_comment))
+loop-line-preserved c = front_more c.args.text.now c.loop-line.left.now c.in-Some.line.now c.in-Some.rest.now c.in-Some.ensures.cuts_line c.loop-line.invariant.0 c.loop-line.invariant.1 (eqb-true (get_or c.in-Some.line.now 0 0) 99 (sym c.if-is_comment.ensures.tells_comment))
 
-pub returns-in-err-v : goal.returns-in-err-v
-returns-in-err-v c =
-    let other = eqb-false (get_or c.in-Some.line.now 0 0) 99 (sym c.if-is-comment.ensures.tells_comment) in
-    record { reads_front = rw c.from-residual.ensures (front_none c.args.text.now c.loop-line.left.now c.in-Some.line.now c.in-Some.rest.now c.in-Some.ensures.cuts_line c.loop-line.invariant.0 c.loop-line.invariant.1 other c.in-err-v.ensures.reads_head) }
+pub returns-in_err-v : goal.returns-in_err-v
+returns-in_err-v c =
+    let other = eqb-false (get_or c.in-Some.line.now 0 0) 99 (sym c.if-is_comment.ensures.tells_comment) in
+    record { reads_front = rw c.from_residual.ensures (front_none c.args.text.now c.loop-line.left.now c.in-Some.line.now c.in-Some.rest.now c.in-Some.ensures.cuts_line c.loop-line.invariant.0 c.loop-line.invariant.1 other c.in_err-v.ensures.reads_head) }
 
-pub returns-else-is-comment : goal.returns-else-is-comment
-returns-else-is-comment c = record { reads_front = front_read c.args.text.now c.loop-line.left.now c.in-Some.line.now c.in-Some.rest.now c.in-Some.ensures.cuts_line c.loop-line.invariant.0 c.loop-line.invariant.1 c.in-ok-v.v c.in-ok-v.c c.in-ok-v.ensures.reads_head }
+pub returns-else-is_comment : goal.returns-else-is_comment
+returns-else-is_comment c = record { reads_front = front_read c.args.text.now c.loop-line.left.now c.in-Some.line.now c.in-Some.rest.now c.in-Some.ensures.cuts_line c.loop-line.invariant.0 c.loop-line.invariant.1 c.in_ok-v.v c.in_ok-v.c c.in_ok-v.ensures.reads_head }
 
 pub returns : goal.returns
-returns c = record { reads_front = λ v d body h. unended_bare c.loop-line.left.now c.in-default.ensures.cuts_line v d body (c.loop-line.invariant.0 v d body h) }
+returns c = record { reads_front = λ v d body h. unended_bare c.loop-line.left.now c.in_default.ensures.cuts_line v d body (c.loop-line.invariant.0 v d body h) }

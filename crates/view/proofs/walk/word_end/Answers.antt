@@ -5,14 +5,14 @@ use Rattle.view.proofs.walk.word_end.Goals as goal
 pub loop-i-init : goal.loop-i-init
 loop-i-init c = clear_one c.args.text.now c.args.from c.requires.1
 
-pub returns-then-is-gap : goal.returns-then-is-gap
-returns-then-is-gap c = record {
+pub returns-then-is_gap : goal.returns-then-is_gap
+returns-then-is_gap c = record {
   ends_within = (omega arith, omega arith);
-  ends_word = word_run c.args.text.now c.args.from c.loop-i.i (omega arith) (omega arith) c.loop-i.invariant (λ l. sym c.if-is-gap.ensures.tells_gap);
+  ends_word = word_run c.args.text.now c.args.from c.loop-i.i (omega arith) (omega arith) c.loop-i.invariant (λ l. sym c.if-is_gap.ensures.tells_gap);
 }
 
 pub loop-i-preserved : goal.loop-i-preserved
-loop-i-preserved c = clear_more c.args.text.now c.args.from c.loop-i.i c.loop-i.invariant (sym c.if-is-gap.ensures.tells_gap)
+loop-i-preserved c = clear_more c.args.text.now c.args.from c.loop-i.i c.loop-i.invariant (sym c.if-is_gap.ensures.tells_gap)
 
 pub returns : goal.returns
 returns c = record {

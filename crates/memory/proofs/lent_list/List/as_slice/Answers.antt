@@ -3,8 +3,8 @@ use Rattle.std.proofs.lemmas.List.{length-take, take_all}
 use Rattle.std.proofs.lemmas.Bool.{cases_lt}
 use Rattle.memory.proofs.lent_list.List.as_slice.Goals as goal
 
-pub slice-bounds-result-end : goal.slice-bounds-result-end
-slice-bounds-result-end g c =
+pub slice_bounds-result-end : goal.slice_bounds-result-end
+slice_bounds-result-end g c =
     let s = c.args.self.now in
     let e = length-take s.len s.memory.now in
     let h : c.len-len.result ≤ length s.memory.now = omega (arith, e, c.len-len.ensures.counts_items) in

@@ -25,67 +25,67 @@ ends at n m l f size count = omega (arith, literal_long (to_z w32 (of_z w32 l)) 
 below : (l : ℤ) (m : ℕ) → SFits w32 l → m ≡ nat_abs (to_z w32 (of_z w32 l)) → bad_literal 999999 l ≡ false → m < 1000000
 below l m f size good = omega (arith, size, ap nat_abs (to_z-of_z w32 l f), ltb-false 999999 (nat_abs l) (or_parts (eqb (nat_abs l) 0) (ltb 999999 (nat_abs l)) good).1)
 
-pub overflow-add-end : goal.overflow-add-end
-overflow-add-end c =
-    let h = ends c.args.at _ _ c.args.l c.ranges.l c.unsigned-abs-size.ensures.value c.digit-count-count.ensures.counts_digits in
+pub overflow_add-end : goal.overflow_add-end
+overflow_add-end c =
+    let h = ends c.args.at _ _ c.args.l c.ranges.l c.unsigned_abs-size.ensures.value c.digit_count-count.ensures.counts_digits in
     let r = c.requires.room in
     search rules
 
 pub bounds-self-at : goal.bounds-self-at
-bounds-self-at c = omega (arith, ends c.args.at _ _ c.args.l c.ranges.l c.unsigned-abs-size.ensures.value c.digit-count-count.ensures.counts_digits, c.requires.room)
+bounds-self-at c = omega (arith, ends c.args.at _ _ c.args.l c.ranges.l c.unsigned_abs-size.ensures.value c.digit_count-count.ensures.counts_digits, c.requires.room)
 
-pub invariant-of-self : goal.invariant-of-self
-invariant-of-self c =
+pub invariant_of-self : goal.invariant_of-self
+invariant_of-self c =
     let s = c.args.self.now in
     untouched s.used s.count s.bytes.now _ (length-set s.bytes.now c.args.at 45) (take-set-le s.used s.bytes.now c.args.at 45 c.requires.past) s.within s.rendered s.counted s.granted
 
 pub bounds-self-end : goal.bounds-self-end
-bounds-self-end c = omega (arith, ends c.args.at _ _ c.args.l c.ranges.l c.unsigned-abs-size.ensures.value c.digit-count-count.ensures.counts_digits, c.requires.room, length-set c.args.self.now.bytes.now c.args.at 45)
+bounds-self-end c = omega (arith, ends c.args.at _ _ c.args.l c.ranges.l c.unsigned_abs-size.ensures.value c.digit_count-count.ensures.counts_digits, c.requires.room, length-set c.args.self.now.bytes.now c.args.at 45)
 
-pub invariant-of-self-2 : goal.invariant-of-self-2
-invariant-of-self-2 c =
+pub invariant_of-self-2 : goal.invariant_of-self-2
+invariant_of-self-2 c =
     let s = c.args.self.now in
     let v = set s.bytes.now c.args.at 45 in
-    let end = c.args.at + bool_byte (lt_z (to_z w32 (of_z w32 c.args.l)) (pos 0)) + c.digit-count-count.result in
+    let end = c.args.at + bool_byte (lt_z (to_z w32 (of_z w32 c.args.l)) (pos 0)) + c.digit_count-count.result in
     untouched s.used s.count s.bytes.now _ (length-set v end 32 ∙ length-set s.bytes.now c.args.at 45) (take-set-le s.used v end 32 (omega (arith, c.requires.past)) ∙ take-set-le s.used s.bytes.now c.args.at 45 c.requires.past) s.within s.rendered s.counted s.granted
 
 pub loop-j-init : goal.loop-j-init
 loop-j-init c =
     let v = set c.args.self.now.bytes.now c.args.at 45 in
-    let e = ends c.args.at _ _ c.args.l c.ranges.l c.unsigned-abs-size.ensures.value c.digit-count-count.ensures.counts_digits in
-    (begun v (c.args.at + bool_byte (lt_z (to_z w32 (of_z w32 c.args.l)) (pos 0))) c.digit-count-count.result c.unsigned-abs-size.result (below c.args.l c.unsigned-abs-size.result c.ranges.l c.unsigned-abs-size.ensures.value c.requires.good) c.digit-count-count.ensures.counts_digits (omega (arith, e, c.requires.room, length-set c.args.self.now.bytes.now c.args.at 45)), refl, refl, refl)
+    let e = ends c.args.at _ _ c.args.l c.ranges.l c.unsigned_abs-size.ensures.value c.digit_count-count.ensures.counts_digits in
+    (begun v (c.args.at + bool_byte (lt_z (to_z w32 (of_z w32 c.args.l)) (pos 0))) c.digit_count-count.result c.unsigned_abs-size.result (below c.args.l c.unsigned_abs-size.result c.ranges.l c.unsigned_abs-size.ensures.value c.requires.good) c.digit_count-count.ensures.counts_digits (omega (arith, e, c.requires.room, length-set c.args.self.now.bytes.now c.args.at 45)), refl, refl, refl)
 
-pub overflow-add-self-in-loop-j-2 : goal.overflow-add-self-in-loop-j-2
-overflow-add-self-in-loop-j-2 c =
-    let h = ends c.args.at _ _ c.args.l c.ranges.l c.unsigned-abs-size.ensures.value c.digit-count-count.ensures.counts_digits in
+pub overflow_add-self-in-loop-j-2 : goal.overflow_add-self-in-loop-j-2
+overflow_add-self-in-loop-j-2 c =
+    let h = ends c.args.at _ _ c.args.l c.ranges.l c.unsigned_abs-size.ensures.value c.digit_count-count.ensures.counts_digits in
     let r = c.requires.room in
     search rules
 
 pub bounds-self-first : goal.bounds-self-first
 bounds-self-first c =
-    let e = ends c.args.at _ _ c.args.l c.ranges.l c.unsigned-abs-size.ensures.value c.digit-count-count.ensures.counts_digits in
+    let e = ends c.args.at _ _ c.args.l c.ranges.l c.unsigned_abs-size.ensures.value c.digit_count-count.ensures.counts_digits in
     let v = set c.args.self.now.bytes.now c.args.at 45 in
-    let end = c.args.at + bool_byte (lt_z (to_z w32 (of_z w32 c.args.l)) (pos 0)) + c.digit-count-count.result in
+    let end = c.args.at + bool_byte (lt_z (to_z w32 (of_z w32 c.args.l)) (pos 0)) + c.digit_count-count.result in
     omega (arith, e, c.requires.room, c.loop-j.invariant.0.long, length-set v end 32, length-set c.args.self.now.bytes.now c.args.at 45)
 
-pub invariant-of-self-in-loop-j : goal.invariant-of-self-in-loop-j
-invariant-of-self-in-loop-j c =
+pub invariant_of-self-in-loop-j : goal.invariant_of-self-in-loop-j
+invariant_of-self-in-loop-j c =
     let s = c.loop-j.self in
     let bs = s.bytes.now in
-    let k = c.args.at + bool_byte (lt_z (to_z w32 (of_z w32 c.args.l)) (pos 0)) + (c.digit-count-count.result - (c.loop-j.j + 1)) in
+    let k = c.args.at + bool_byte (lt_z (to_z w32 (of_z w32 c.args.l)) (pos 0)) + (c.digit_count-count.result - (c.loop-j.j + 1)) in
     let d = 48 + c.loop-j.left % 10 in
     untouched s.used s.count bs _ (length-set bs k d) (take-set-le s.used bs k d (omega (arith, c.loop-j.invariant.1, c.requires.past))) s.within s.rendered s.counted s.granted
 
 pub loop-j-preserved : goal.loop-j-preserved
 loop-j-preserved c =
-    let e = ends c.args.at _ _ c.args.l c.ranges.l c.unsigned-abs-size.ensures.value c.digit-count-count.ensures.counts_digits in
+    let e = ends c.args.at _ _ c.args.l c.ranges.l c.unsigned_abs-size.ensures.value c.digit_count-count.ensures.counts_digits in
     let v = set c.args.self.now.bytes.now c.args.at 45 in
-    let end = c.args.at + bool_byte (lt_z (to_z w32 (of_z w32 c.args.l)) (pos 0)) + c.digit-count-count.result in
-    (more _ _ _ _ _ _ _ _ c.loop-j.invariant.0 (sym c.digit-count-count.ensures.counts_digits) c.loop-j-test.true (omega (arith, e, c.requires.room, length-set v end 32, length-set c.args.self.now.bytes.now c.args.at 45)), c.loop-j.invariant.1, c.loop-j.invariant.2, c.loop-j.invariant.3)
+    let end = c.args.at + bool_byte (lt_z (to_z w32 (of_z w32 c.args.l)) (pos 0)) + c.digit_count-count.result in
+    (more _ _ _ _ _ _ _ _ c.loop-j.invariant.0 (sym c.digit_count-count.ensures.counts_digits) c.loop-j-test.true (omega (arith, e, c.requires.room, length-set v end 32, length-set c.args.self.now.bytes.now c.args.at 45)), c.loop-j.invariant.1, c.loop-j.invariant.2, c.loop-j.invariant.3)
 
-pub overflow-add-result : goal.overflow-add-result
-overflow-add-result c =
-    let h = ends c.args.at _ _ c.args.l c.ranges.l c.unsigned-abs-size.ensures.value c.digit-count-count.ensures.counts_digits in
+pub overflow_add-result : goal.overflow_add-result
+overflow_add-result c =
+    let h = ends c.args.at _ _ c.args.l c.ranges.l c.unsigned_abs-size.ensures.value c.digit_count-count.ensures.counts_digits in
     let r = c.requires.room in
     search rules
 
@@ -95,24 +95,24 @@ returns c =
     let at = c.args.at in
     let z = to_z w32 (of_z w32 c.args.l) in
     let first = at + bool_byte (lt_z z (pos 0)) in
-    let n = c.digit-count-count.result in
+    let n = c.digit_count-count.result in
     let v = set ws at 45 in
     let w = set v (first + n) 32 in
     let vs = c.loop-j.self.bytes.now in
-    let e = ends at _ _ c.args.l c.ranges.l c.unsigned-abs-size.ensures.value c.digit-count-count.ensures.counts_digits in
+    let e = ends at _ _ c.args.l c.ranges.l c.unsigned_abs-size.ensures.value c.digit_count-count.ensures.counts_digits in
     let long = length-set ws at 45 in
     let longer = length-set v (first + n) 32 in
     let room : first + n < length w = omega (arith, e, c.requires.room) in
     let here : at < length ws = omega (arith, e, c.requires.room) in
-    let D = decimal c.unsigned-abs-size.result in
+    let D = decimal c.unsigned_abs-size.result in
     let h = c.loop-j.invariant.0 in
-    let whole = sym c.digit-count-count.ensures.counts_digits in
+    let whole = sym c.digit_count-count.ensures.counts_digits in
     record {
       ends_after = e;
       writes_literal =
           written w D (take first w) first n c.loop-j.j c.loop-j.left vs h whole c.loop-j-test.false room
           ∙ ap (λ (xs : List ℕ). xs ++ (D ++ (32 ∷ []))) (take-set-le first v (first + n) 32 (omega arith))
-          ∙ literal_joined z c.args.l c.unsigned-abs-size.result (to_z-of_z w32 c.args.l c.ranges.l) c.unsigned-abs-size.ensures.value ws at here;
+          ∙ literal_joined z c.args.l c.unsigned_abs-size.result (to_z-of_z w32 c.args.l c.ranges.l) c.unsigned_abs-size.ensures.value ws at here;
       leaves_the_rest = λ k g. drop_later vs ws (first + n + 1) k (rest w D (take first w) first n c.loop-j.j c.loop-j.left vs h whole c.loop-j-test.false room ∙ drop-set-lt (first + n + 1) v (first + n) 32 (omega arith) ∙ drop-set-lt (first + n + 1) ws at 45 (omega arith)) g;
       keeps_capacity = h.long ∙ longer ∙ long;
       keeps_used = c.loop-j.invariant.1;

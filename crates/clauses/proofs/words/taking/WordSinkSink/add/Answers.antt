@@ -14,7 +14,7 @@ returns-then-self-at c =
     let s = c.args.self.now in
     let ws = s.words.now in
     let xs = c.args.clause.now in
-    let b = sym c.if-bad-clause.ensures.tells_bad_clause in
+    let b = sym c.if-bad_clause.ensures.tells_bad_clause in
     let e = spent ws s.used s.within s.closed s.granted in
     let p = cond-false (bad_clause 4096 xs) 0 (length xs + 1) b in
     let l : length ws - total word_cost (parse (take s.used ws)) < word_cost xs = omega arith in
@@ -28,8 +28,8 @@ returns-then-self-at c =
     }
 
 -- a write past what is used leaves it
-pub invariant-of-self : goal.invariant-of-self
-invariant-of-self c =
+pub invariant_of-self : goal.invariant_of-self
+invariant_of-self c =
     let s = c.loop-i.self in
     let ws = s.words.now in
     let k = c.args.self.now.used + c.loop-i.i in
@@ -54,8 +54,8 @@ loop-i-preserved c =
       c.loop-i.invariant.5,
     )
 
-pub overflow-add-self-4 : goal.overflow-add-self-4
-overflow-add-self-4 c =
+pub overflow_add-self-4 : goal.overflow_add-self-4
+overflow_add-self-4 c =
     let s = c.args.self.now in
     let ws = s.words.now in
     let a : s.count ≤ s.used = omega (arith, s.counted, count_le (take s.used ws), length-take-le s.used ws s.within) in
@@ -69,8 +69,8 @@ written used ws xs rs closed holds ok =
     ∙ (parse_app true (take used ws) (xs ++ (pos 0 ∷ [])) closed).0
     ∙ ap (λ cs. parse (take used ws) ++ cs) (parse_clause 4096 xs [] (or_parts (ltb 130 (length xs)) (any (bad_literal 4096) xs) ok).1)
 
-pub invariant-of-self-2 : goal.invariant-of-self-2
-invariant-of-self-2 c =
+pub invariant_of-self-2 : goal.invariant_of-self-2
+invariant_of-self-2 c =
     let s = c.args.self.now in
     let ws = s.words.now in
     let xs = c.args.clause.now in
@@ -80,7 +80,7 @@ invariant-of-self-2 c =
     let e : c.loop-i.i ≡ length xs = omega arith in
     let holds = put_end ws vs xs s.used c.loop-i.i c.loop-i.invariant.1 e l in
     let fits : s.used + length xs + 1 ≤ length rs = omega (arith, length-set vs (s.used + length xs) (pos 0)) in
-    let b = sym c.if-bad-clause.ensures.tells_bad_clause in
+    let b = sym c.if-bad_clause.ensures.tells_bad_clause in
     let now-held = written s.used ws xs rs s.closed holds b in (
       fits,
       (
@@ -102,7 +102,7 @@ returns c =
     let l : s.used + length xs < length vs = omega (arith, c.loop-i.invariant.0) in
     let e : c.loop-i.i ≡ length xs = omega arith in
     let holds = put_end ws vs xs s.used c.loop-i.i c.loop-i.invariant.1 e l in
-    let b = sym c.if-bad-clause.ensures.tells_bad_clause in
+    let b = sym c.if-bad_clause.ensures.tells_bad_clause in
     let p = cond-false (bad_clause 4096 xs) 0 (length xs + 1) b in
     let q = spent ws s.used s.within s.closed s.granted in
     let room : word_cost xs ≤ length ws - total word_cost (parse (take s.used ws)) = omega arith in

@@ -9,5 +9,5 @@ returns c =
     let s = c.args.self.now in
     let bs = s.bytes.now in
     let all : s.used - 0 ≡ s.used = omega arith in
-    let n = subst (λ (n : ℕ). Next (take n bs) c.args.place c.word-from.result) all c.word-from.ensures.reads_number in
-    record { reads_word = reads (take s.used bs) c.args.place c.word-from.result (shut (take s.used bs) s.rendered s.granted) n }
+    let n = subst (λ (n : ℕ). Next (take n bs) c.args.place c.word_from.result) all c.word_from.ensures.reads_number in
+    record { reads_word = reads (take s.used bs) c.args.place c.word_from.result (shut (take s.used bs) s.rendered s.granted) n }

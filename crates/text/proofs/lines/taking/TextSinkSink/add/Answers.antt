@@ -11,15 +11,15 @@ use Rattle.text.specs.Scan.{numbers}
 use Rattle.text.proofs.Rendering.{spent, few, literals_more, literals_within, room_here, finish}
 use Rattle.text.proofs.lines.taking.TextSinkSink.add.Goals as goal
 
-pub returns-then-not-line-fits : goal.returns-then-not-line-fits
-returns-then-not-line-fits c =
+pub returns-then-not-line_fits : goal.returns-then-not-line_fits
+returns-then-not-line_fits c =
     let s = c.args.self.now in
     let bs = s.bytes.now in
     let xs = c.args.clause.now in
-    let b = sym c.if-bad-clause.ensures.tells_bad_clause in
+    let b = sym c.if-bad_clause.ensures.tells_bad_clause in
     let e = spent bs s.used s.within s.rendered s.granted in
     let p = cond-false (bad_clause 999999 xs) 0 (length (line_text xs)) b in
-    let l : length bs - total text_cost (parse (numbers (take s.used bs))) < text_cost xs = omega (arith, leb-false (length (line_text c.args.clause.now)) (length c.args.self.now.bytes.now - c.args.self.now.used) (sym c.line-fits.ensures.fits_line ∙ c.if-not-line-fits.true)) in
+    let l : length bs - total text_cost (parse (numbers (take s.used bs))) < text_cost xs = omega (arith, leb-false (length (line_text c.args.clause.now)) (length c.args.self.now.bytes.now - c.args.self.now.used) (sym c.line_fits.ensures.fits_line ∙ c.if-not-line_fits.true)) in
     record {
       grants_where_space = sym (judged_full 999999 _ _ xs b l);
       stands_last = refl;
@@ -36,8 +36,8 @@ put-at-requires c =
     let i = c.loop-i.i in
     let f : SFits w32 (get_or xs i (pos 0)) = search rules in
     let same = to_z-of_z w32 (get_or xs i (pos 0)) f in
-    let b = sym c.if-bad-clause.ensures.tells_bad_clause in
-    let room : s.used + length (line_text xs) ≤ length s.bytes.now = omega (arith, (leb-true (length (line_text c.args.clause.now)) (length c.args.self.now.bytes.now - c.args.self.now.used) (sym c.line-fits.ensures.fits_line ∙ c.if-not-line-fits.false)), s.within) in
+    let b = sym c.if-bad_clause.ensures.tells_bad_clause in
+    let room : s.used + length (line_text xs) ≤ length s.bytes.now = omega (arith, (leb-true (length (line_text c.args.clause.now)) (length c.args.self.now.bytes.now - c.args.self.now.used) (sym c.line_fits.ensures.fits_line ∙ c.if-not-line_fits.false)), s.within) in
     record {
       past = omega (arith, c.loop-i.invariant.1, c.loop-i.invariant.4);
       room = omega (arith, c.loop-i.invariant.0, c.loop-i.invariant.1, ap (λ (z : ℤ). length (literal_text z)) same, room_here s.used xs i (length s.bytes.now) c.loop-i-test.true room);
@@ -80,12 +80,12 @@ left_for used cost at i ws vs xs h e l long where-at last = omega (arith, ap (λ
 pub bounds-self-at : goal.bounds-self-at
 bounds-self-at c =
     let s = c.args.self.now in
-    let h = left_for s.used (length (line_text c.args.clause.now)) c.loop-i.at c.loop-i.i s.bytes.now c.loop-i.self.bytes.now c.args.clause.now s.within refl (leb-true (length (line_text c.args.clause.now)) (length c.args.self.now.bytes.now - c.args.self.now.used) (sym c.line-fits.ensures.fits_line ∙ c.if-not-line-fits.false)) c.loop-i.invariant.0 c.loop-i.invariant.1 c.loop-i-test.false in
+    let h = left_for s.used (length (line_text c.args.clause.now)) c.loop-i.at c.loop-i.i s.bytes.now c.loop-i.self.bytes.now c.args.clause.now s.within refl (leb-true (length (line_text c.args.clause.now)) (length c.args.self.now.bytes.now - c.args.self.now.used) (sym c.line_fits.ensures.fits_line ∙ c.if-not-line_fits.false)) c.loop-i.invariant.0 c.loop-i.invariant.1 c.loop-i-test.false in
     omega arith
 
 -- a write past what is used leaves it
-pub invariant-of-self : goal.invariant-of-self
-invariant-of-self c =
+pub invariant_of-self : goal.invariant_of-self
+invariant_of-self c =
     let s = c.loop-i.self in
     let bs = s.bytes.now in
     let k = c.loop-i.at in
@@ -94,35 +94,35 @@ invariant-of-self c =
     let l : s.used ≤ length (set bs k 48) = omega (arith, length-set bs k 48, s.within) in
     (l, (ap (λ zs. lines_text (parse (numbers zs))) same ∙ s.rendered ∙ sym same, (s.counted ∙ sym (ap (λ zs. length (parse (numbers zs))) same), (ap (λ zs. any (bad_clause 999999) (parse (numbers zs))) same ∙ s.granted, tt))))
 
-pub overflow-add-self : goal.overflow-add-self
-overflow-add-self c =
+pub overflow_add-self : goal.overflow_add-self
+overflow_add-self c =
     let s = c.args.self.now in
-    let h = left_for s.used (length (line_text c.args.clause.now)) c.loop-i.at c.loop-i.i s.bytes.now c.loop-i.self.bytes.now c.args.clause.now s.within refl (leb-true (length (line_text c.args.clause.now)) (length c.args.self.now.bytes.now - c.args.self.now.used) (sym c.line-fits.ensures.fits_line ∙ c.if-not-line-fits.false)) c.loop-i.invariant.0 c.loop-i.invariant.1 c.loop-i-test.false in
+    let h = left_for s.used (length (line_text c.args.clause.now)) c.loop-i.at c.loop-i.i s.bytes.now c.loop-i.self.bytes.now c.args.clause.now s.within refl (leb-true (length (line_text c.args.clause.now)) (length c.args.self.now.bytes.now - c.args.self.now.used) (sym c.line_fits.ensures.fits_line ∙ c.if-not-line_fits.false)) c.loop-i.invariant.0 c.loop-i.invariant.1 c.loop-i-test.false in
     search rules
 
 pub bounds-self-at-2 : goal.bounds-self-at-2
 bounds-self-at-2 c =
     let s = c.args.self.now in
-    let h = left_for s.used (length (line_text c.args.clause.now)) c.loop-i.at c.loop-i.i s.bytes.now c.loop-i.self.bytes.now c.args.clause.now s.within refl (leb-true (length (line_text c.args.clause.now)) (length c.args.self.now.bytes.now - c.args.self.now.used) (sym c.line-fits.ensures.fits_line ∙ c.if-not-line-fits.false)) c.loop-i.invariant.0 c.loop-i.invariant.1 c.loop-i-test.false in
+    let h = left_for s.used (length (line_text c.args.clause.now)) c.loop-i.at c.loop-i.i s.bytes.now c.loop-i.self.bytes.now c.args.clause.now s.within refl (leb-true (length (line_text c.args.clause.now)) (length c.args.self.now.bytes.now - c.args.self.now.used) (sym c.line_fits.ensures.fits_line ∙ c.if-not-line_fits.false)) c.loop-i.invariant.0 c.loop-i.invariant.1 c.loop-i-test.false in
     omega (arith, length-set c.loop-i.self.bytes.now c.loop-i.at 48)
 
-pub overflow-add-self-2 : goal.overflow-add-self-2
-overflow-add-self-2 c =
+pub overflow_add-self-2 : goal.overflow_add-self-2
+overflow_add-self-2 c =
     let s = c.args.self.now in
-    let h = left_for s.used (length (line_text c.args.clause.now)) c.loop-i.at c.loop-i.i s.bytes.now c.loop-i.self.bytes.now c.args.clause.now s.within refl (leb-true (length (line_text c.args.clause.now)) (length c.args.self.now.bytes.now - c.args.self.now.used) (sym c.line-fits.ensures.fits_line ∙ c.if-not-line-fits.false)) c.loop-i.invariant.0 c.loop-i.invariant.1 c.loop-i-test.false in
+    let h = left_for s.used (length (line_text c.args.clause.now)) c.loop-i.at c.loop-i.i s.bytes.now c.loop-i.self.bytes.now c.args.clause.now s.within refl (leb-true (length (line_text c.args.clause.now)) (length c.args.self.now.bytes.now - c.args.self.now.used) (sym c.line_fits.ensures.fits_line ∙ c.if-not-line_fits.false)) c.loop-i.invariant.0 c.loop-i.invariant.1 c.loop-i-test.false in
     search rules
 
-pub overflow-add-self-3 : goal.overflow-add-self-3
-overflow-add-self-3 c =
+pub overflow_add-self-3 : goal.overflow_add-self-3
+overflow_add-self-3 c =
     let s = c.args.self.now in
-    let h = left_for s.used (length (line_text c.args.clause.now)) c.loop-i.at c.loop-i.i s.bytes.now c.loop-i.self.bytes.now c.args.clause.now s.within refl (leb-true (length (line_text c.args.clause.now)) (length c.args.self.now.bytes.now - c.args.self.now.used) (sym c.line-fits.ensures.fits_line ∙ c.if-not-line-fits.false)) c.loop-i.invariant.0 c.loop-i.invariant.1 c.loop-i-test.false in
+    let h = left_for s.used (length (line_text c.args.clause.now)) c.loop-i.at c.loop-i.i s.bytes.now c.loop-i.self.bytes.now c.args.clause.now s.within refl (leb-true (length (line_text c.args.clause.now)) (length c.args.self.now.bytes.now - c.args.self.now.used) (sym c.line_fits.ensures.fits_line ∙ c.if-not-line_fits.false)) c.loop-i.invariant.0 c.loop-i.invariant.1 c.loop-i-test.false in
     let a : c.loop-i.self.count ≤ c.loop-i.at = omega (arith, c.loop-i.invariant.1, c.loop-i.invariant.5, s.counted, few s.bytes.now s.used s.within) in
     search rules
 
-pub invariant-of-self-2 : goal.invariant-of-self-2
-invariant-of-self-2 c =
+pub invariant_of-self-2 : goal.invariant_of-self-2
+invariant_of-self-2 c =
     let s = c.args.self.now in
-    let d = finish s.used s.bytes.now c.args.clause.now c.loop-i.at c.loop-i.i c.loop-i.self.bytes.now s.rendered s.granted (sym c.if-bad-clause.ensures.tells_bad_clause) (room_for s.used (length (line_text c.args.clause.now)) (length s.bytes.now) c.args.clause.now s.within refl (leb-true (length (line_text c.args.clause.now)) (length c.args.self.now.bytes.now - c.args.self.now.used) (sym c.line-fits.ensures.fits_line ∙ c.if-not-line-fits.false))) c.loop-i-test.false c.loop-i.invariant.0 c.loop-i.invariant.1 c.loop-i.invariant.2 c.loop-i.invariant.3 in (
+    let d = finish s.used s.bytes.now c.args.clause.now c.loop-i.at c.loop-i.i c.loop-i.self.bytes.now s.rendered s.granted (sym c.if-bad_clause.ensures.tells_bad_clause) (room_for s.used (length (line_text c.args.clause.now)) (length s.bytes.now) c.args.clause.now s.within refl (leb-true (length (line_text c.args.clause.now)) (length c.args.self.now.bytes.now - c.args.self.now.used) (sym c.line_fits.ensures.fits_line ∙ c.if-not-line_fits.false))) c.loop-i-test.false c.loop-i.invariant.0 c.loop-i.invariant.1 c.loop-i.invariant.2 c.loop-i.invariant.3 in (
       d.within,
       (
         d.more.renders,
@@ -138,11 +138,11 @@ returns c =
     let s = c.args.self.now in
     let ws = s.bytes.now in
     let xs = c.args.clause.now in
-    let d = finish s.used s.bytes.now c.args.clause.now c.loop-i.at c.loop-i.i c.loop-i.self.bytes.now s.rendered s.granted (sym c.if-bad-clause.ensures.tells_bad_clause) (room_for s.used (length (line_text c.args.clause.now)) (length s.bytes.now) c.args.clause.now s.within refl (leb-true (length (line_text c.args.clause.now)) (length c.args.self.now.bytes.now - c.args.self.now.used) (sym c.line-fits.ensures.fits_line ∙ c.if-not-line-fits.false))) c.loop-i-test.false c.loop-i.invariant.0 c.loop-i.invariant.1 c.loop-i.invariant.2 c.loop-i.invariant.3 in
-    let b = sym c.if-bad-clause.ensures.tells_bad_clause in
+    let d = finish s.used s.bytes.now c.args.clause.now c.loop-i.at c.loop-i.i c.loop-i.self.bytes.now s.rendered s.granted (sym c.if-bad_clause.ensures.tells_bad_clause) (room_for s.used (length (line_text c.args.clause.now)) (length s.bytes.now) c.args.clause.now s.within refl (leb-true (length (line_text c.args.clause.now)) (length c.args.self.now.bytes.now - c.args.self.now.used) (sym c.line_fits.ensures.fits_line ∙ c.if-not-line_fits.false))) c.loop-i-test.false c.loop-i.invariant.0 c.loop-i.invariant.1 c.loop-i.invariant.2 c.loop-i.invariant.3 in
+    let b = sym c.if-bad_clause.ensures.tells_bad_clause in
     let p = cond-false (bad_clause 999999 xs) 0 (length (line_text xs)) b in
     let e = spent ws s.used s.within s.rendered s.granted in
-    let room : text_cost xs ≤ length ws - total text_cost (parse (numbers (take s.used ws))) = omega (arith, (leb-true (length (line_text c.args.clause.now)) (length c.args.self.now.bytes.now - c.args.self.now.used) (sym c.line-fits.ensures.fits_line ∙ c.if-not-line-fits.false)), s.within) in
+    let room : text_cost xs ≤ length ws - total text_cost (parse (numbers (take s.used ws))) = omega (arith, (leb-true (length (line_text c.args.clause.now)) (length c.args.self.now.bytes.now - c.args.self.now.used) (sym c.line_fits.ensures.fits_line ∙ c.if-not-line_fits.false)), s.within) in
     record {
       grants_where_space = sym (judged_ok 999999 _ _ xs b room);
       stands_last = d.more.holds;
