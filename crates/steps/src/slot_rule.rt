@@ -2,8 +2,7 @@
 ghost use Rattle.std.specs.Prelude.{◌≡◌};
 ghost use Rattle.rules.specs.Steps.{Rule, Lawful, single, parallel};
 ghost use Rattle.steps.specs.Sets.{meaning};
-ghost use borrow.Author.Rules;
-ghost use Rattle.rules.proofs.Rules.{parallel_lawful_lem};
+ghost use Rattle.rules.proofs.Rules.{single_lawful_lem, parallel_lawful_lem};
 
 use crate::step_record::StepRecord;
 
@@ -25,7 +24,7 @@ pub struct Single;
 impl SlotRule for Single {
     ghost parts = { λ _. single };
 
-    ghost lawful = { Prim.search Needs.needs };
+    ghost lawful = { λ s. single_lawful_lem };
 
     fn apart(&self, a: &StepRecord, b: &StepRecord) -> bool {
         a.number != b.number

@@ -13,10 +13,21 @@ use Rattle.text.proofs.Rendering.{drop_later}
 use Rattle.text.proofs.Places.{begun, more, written, rest, literal_long, literal_joined}
 use Rattle.text.proofs.lines.TextSink.put.Goals as goal
 
+pub record Untouched (used count : ℕ) (cs : List ℕ) : Type 0 where
+  pub within : used ≤ length cs
+  pub rendered : lines_text (parse (numbers (take used cs))) ≡ take used cs
+  pub counted : count ≡ length (parse (numbers (take used cs)))
+  pub granted : any (bad_clause 999999) (parse (numbers (take used cs))) ≡ false
+
 -- what is in use stands as it was
-untouched : (used count : ℕ) (bs cs : List ℕ) → length cs ≡ length bs → take used cs ≡ take used bs → used ≤ length bs → lines_text (parse (numbers (take used bs))) ≡ take used bs → count ≡ length (parse (numbers (take used bs))) → any (bad_clause 999999) (parse (numbers (take used bs))) ≡ false → (used ≤ length cs) × ((lines_text (parse (numbers (take used cs))) ≡ take used cs) × ((count ≡ length (parse (numbers (take used cs)))) × ((any (bad_clause 999999) (parse (numbers (take used cs))) ≡ false) × Unit {0})))
+untouched : (used count : ℕ) (bs cs : List ℕ) → length cs ≡ length bs → take used cs ≡ take used bs → used ≤ length bs → lines_text (parse (numbers (take used bs))) ≡ take used bs → count ≡ length (parse (numbers (take used bs))) → any (bad_clause 999999) (parse (numbers (take used bs))) ≡ false → Untouched used count cs
 untouched used count bs cs long same within rendered counted granted =
-    (omega (arith, long, within), (ap (λ zs. lines_text (parse (numbers zs))) same ∙ rendered ∙ sym same, (counted ∙ sym (ap (λ zs. length (parse (numbers zs))) same), (ap (λ zs. any (bad_clause 999999) (parse (numbers zs))) same ∙ granted, tt))))
+    record {
+      within = omega (arith, long, within);
+      rendered = ap (λ zs. lines_text (parse (numbers zs))) same ∙ rendered ∙ sym same;
+      counted = counted ∙ sym (ap (λ zs. length (parse (numbers zs))) same);
+      granted = ap (λ zs. any (bad_clause 999999) (parse (numbers zs))) same ∙ granted;
+    }
 
 -- where the literal ends
 ends : (at n m : ℕ) (l : ℤ) → SFits w32 l → m ≡ nat_abs (to_z w32 (of_z w32 l)) → n ≡ length (decimal m) → at + bool_byte (lt_z (to_z w32 (of_z w32 l)) (pos 0)) + n + 1 ≡ at + length (literal_text l)
@@ -37,7 +48,8 @@ bounds-self-at c = omega (arith, ends c.args.at _ _ c.args.l c.ranges.l c.unsign
 pub invariant_of-self : goal.invariant_of-self
 invariant_of-self c =
     let s = c.args.self.now in
-    untouched s.used s.count s.bytes.now _ (length-set s.bytes.now c.args.at 45) (take-set-le s.used s.bytes.now c.args.at 45 c.requires.past) s.within s.rendered s.counted s.granted
+    let u = untouched s.used s.count s.bytes.now _ (length-set s.bytes.now c.args.at 45) (take-set-le s.used s.bytes.now c.args.at 45 c.requires.past) s.within s.rendered s.counted s.granted in
+    record { within = u.within; rendered = u.rendered; counted = u.counted; granted = u.granted }
 
 pub bounds-self-end : goal.bounds-self-end
 bounds-self-end c = omega (arith, ends c.args.at _ _ c.args.l c.ranges.l c.unsigned_abs-size.ensures.value c.digit_count-count.ensures.counts_digits, c.requires.room, length-set c.args.self.now.bytes.now c.args.at 45)
@@ -47,7 +59,8 @@ invariant_of-self-2 c =
     let s = c.args.self.now in
     let v = set s.bytes.now c.args.at 45 in
     let end = c.args.at + bool_byte (lt_z (to_z w32 (of_z w32 c.args.l)) (pos 0)) + c.digit_count-count.result in
-    untouched s.used s.count s.bytes.now _ (length-set v end 32 ∙ length-set s.bytes.now c.args.at 45) (take-set-le s.used v end 32 (omega (arith, c.requires.past)) ∙ take-set-le s.used s.bytes.now c.args.at 45 c.requires.past) s.within s.rendered s.counted s.granted
+    let u = untouched s.used s.count s.bytes.now _ (length-set v end 32 ∙ length-set s.bytes.now c.args.at 45) (take-set-le s.used v end 32 (omega (arith, c.requires.past)) ∙ take-set-le s.used s.bytes.now c.args.at 45 c.requires.past) s.within s.rendered s.counted s.granted in
+    record { within = u.within; rendered = u.rendered; counted = u.counted; granted = u.granted }
 
 pub loop-j-init : goal.loop-j-init
 loop-j-init c =
@@ -74,7 +87,8 @@ invariant_of-self-in-loop-j c =
     let bs = s.bytes.now in
     let k = c.args.at + bool_byte (lt_z (to_z w32 (of_z w32 c.args.l)) (pos 0)) + (c.digit_count-count.result - (c.loop-j.j + 1)) in
     let d = 48 + c.loop-j.left % 10 in
-    untouched s.used s.count bs _ (length-set bs k d) (take-set-le s.used bs k d (omega (arith, c.loop-j.invariant.1, c.requires.past))) s.within s.rendered s.counted s.granted
+    let u = untouched s.used s.count bs _ (length-set bs k d) (take-set-le s.used bs k d (omega (arith, c.loop-j.invariant.1, c.requires.past))) s.within s.rendered s.counted s.granted in
+    record { within = u.within; rendered = u.rendered; counted = u.counted; granted = u.granted }
 
 pub loop-j-preserved : goal.loop-j-preserved
 loop-j-preserved c =

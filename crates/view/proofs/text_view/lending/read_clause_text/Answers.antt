@@ -22,7 +22,7 @@ invariant_of-view c =
     let h = c.in-Some.ensures.reads_front in
     let fits : completes c.in-Some.variables c.in-Some.clauses 0 0 (words_of c.in-Some.body.now) ≡ true = sym c.if-not-clauses_fit.ensures.tells_clauses in
     let w = viewed c.args.text.now c.in-Some.variables c.in-Some.clauses c.in-Some.body.now h fits in
-    (h.narrow, (w.counted, (w.granted, (w.closed, tt))))
+    record { narrow = h.narrow; counted = w.counted; granted = w.granted; closed = w.closed }
 
 pub returns : goal.returns
 returns c =

@@ -37,7 +37,12 @@ invariant_of-self c =
     let below : s.used ≤ k = omega (arith, c.loop-i.invariant.3) in
     let same = take-set-le s.used ws k y below in
     let l : s.used ≤ length (set ws k y) = omega (arith, length-set ws k y, s.within) in
-    (l, (ap (ends true) same ∙ s.closed, (s.counted ∙ sym (ap (λ zs. length (parse zs)) same), (ap (λ zs. any (bad_clause 4096) (parse zs)) same ∙ s.granted, tt))))
+    record {
+      within = l;
+      closed = ap (ends true) same ∙ s.closed;
+      counted = s.counted ∙ sym (ap (λ zs. length (parse zs)) same);
+      granted = ap (λ zs. any (bad_clause 4096) (parse zs)) same ∙ s.granted;
+    }
 
 pub loop-i-preserved : goal.loop-i-preserved
 loop-i-preserved c =
@@ -81,16 +86,13 @@ invariant_of-self-2 c =
     let holds = put_end ws vs xs s.used c.loop-i.i c.loop-i.invariant.1 e l in
     let fits : s.used + length xs + 1 ≤ length rs = omega (arith, length-set vs (s.used + length xs) (pos 0)) in
     let b = sym c.if-bad_clause.ensures.tells_bad_clause in
-    let now-held = written s.used ws xs rs s.closed holds b in (
-      fits,
-      (
-        ap (ends true) holds ∙ ends_app true (take s.used ws) (xs ++ (pos 0 ∷ [])) ∙ ends_app _ xs (pos 0 ∷ []),
-        (
-          ap (λ n. n + 1) (c.loop-i.invariant.4 ∙ s.counted) ∙ sym (ap length now-held ∙ length_push (parse (take s.used ws)) xs),
-          (ap (any (bad_clause 4096)) now-held ∙ none_bad_push 4096 (parse (take s.used ws)) xs s.granted b, tt),
-        ),
-      ),
-    )
+    let now_held = written s.used ws xs rs s.closed holds b in
+    record {
+      within = fits;
+      closed = ap (ends true) holds ∙ ends_app true (take s.used ws) (xs ++ (pos 0 ∷ [])) ∙ ends_app _ xs (pos 0 ∷ []);
+      counted = ap (λ n. n + 1) (c.loop-i.invariant.4 ∙ s.counted) ∙ sym (ap length now_held ∙ length_push (parse (take s.used ws)) xs);
+      granted = ap (any (bad_clause 4096)) now_held ∙ none_bad_push 4096 (parse (take s.used ws)) xs s.granted b;
+    }
 
 pub returns : goal.returns
 returns c =

@@ -92,7 +92,12 @@ invariant_of-self c =
     let below : s.used ≤ k = omega (arith, c.loop-i.invariant.1, c.loop-i.invariant.4) in
     let same = take-set-le s.used bs k 48 below in
     let l : s.used ≤ length (set bs k 48) = omega (arith, length-set bs k 48, s.within) in
-    (l, (ap (λ zs. lines_text (parse (numbers zs))) same ∙ s.rendered ∙ sym same, (s.counted ∙ sym (ap (λ zs. length (parse (numbers zs))) same), (ap (λ zs. any (bad_clause 999999) (parse (numbers zs))) same ∙ s.granted, tt))))
+    record {
+      within = l;
+      rendered = ap (λ zs. lines_text (parse (numbers zs))) same ∙ s.rendered ∙ sym same;
+      counted = s.counted ∙ sym (ap (λ zs. length (parse (numbers zs))) same);
+      granted = ap (λ zs. any (bad_clause 999999) (parse (numbers zs))) same ∙ s.granted;
+    }
 
 pub overflow_add-self : goal.overflow_add-self
 overflow_add-self c =
@@ -122,16 +127,13 @@ overflow_add-self-3 c =
 pub invariant_of-self-2 : goal.invariant_of-self-2
 invariant_of-self-2 c =
     let s = c.args.self.now in
-    let d = finish s.used s.bytes.now c.args.clause.now c.loop-i.at c.loop-i.i c.loop-i.self.bytes.now s.rendered s.granted (sym c.if-bad_clause.ensures.tells_bad_clause) (room_for s.used (length (line_text c.args.clause.now)) (length s.bytes.now) c.args.clause.now s.within refl (leb-true (length (line_text c.args.clause.now)) (length c.args.self.now.bytes.now - c.args.self.now.used) (sym c.line_fits.ensures.fits_line ∙ c.if-not-line_fits.false))) c.loop-i-test.false c.loop-i.invariant.0 c.loop-i.invariant.1 c.loop-i.invariant.2 c.loop-i.invariant.3 in (
-      d.within,
-      (
-        d.more.renders,
-        (
-          ap (λ n. n + 1) (c.loop-i.invariant.5 ∙ s.counted) ∙ sym (ap length d.more.holds ∙ length_push (parse (numbers (take s.used s.bytes.now))) c.args.clause.now),
-          (d.more.none_bad, tt),
-        ),
-      ),
-    )
+    let d = finish s.used s.bytes.now c.args.clause.now c.loop-i.at c.loop-i.i c.loop-i.self.bytes.now s.rendered s.granted (sym c.if-bad_clause.ensures.tells_bad_clause) (room_for s.used (length (line_text c.args.clause.now)) (length s.bytes.now) c.args.clause.now s.within refl (leb-true (length (line_text c.args.clause.now)) (length c.args.self.now.bytes.now - c.args.self.now.used) (sym c.line_fits.ensures.fits_line ∙ c.if-not-line_fits.false))) c.loop-i-test.false c.loop-i.invariant.0 c.loop-i.invariant.1 c.loop-i.invariant.2 c.loop-i.invariant.3 in
+    record {
+      within = d.within;
+      rendered = d.more.renders;
+      counted = ap (λ n. n + 1) (c.loop-i.invariant.5 ∙ s.counted) ∙ sym (ap length d.more.holds ∙ length_push (parse (numbers (take s.used s.bytes.now))) c.args.clause.now);
+      granted = d.more.none_bad;
+    }
 
 pub returns : goal.returns
 returns c =
