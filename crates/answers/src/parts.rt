@@ -25,11 +25,11 @@ pub(crate) fn kind_of(line: &[u8]) -> Kind
 pub(crate) fn claim_of(line: &[u8]) -> Option<Status>
     ensures reads_claim { result ≡ claim_of line.now }
 {
-    if line == b"s SATISFIABLE" {
+    if line == b"s SATISFIABLE".as_slice() {
         Some(Status::Satisfiable)
-    } else if line == b"s UNSATISFIABLE" {
+    } else if line == b"s UNSATISFIABLE".as_slice() {
         Some(Status::Unsatisfiable)
-    } else if line == b"s UNKNOWN" {
+    } else if line == b"s UNKNOWN".as_slice() {
         Some(Status::Unknown)
     } else {
         None

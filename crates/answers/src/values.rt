@@ -31,7 +31,7 @@ fn take_numbers(numbers: &[u8], truth: &mut [u8]) -> Result<Stage, Refusal>
         take_literal(word, truth)?;
         left = rest;
     }
-    if left == b"0" {
+    if left == b"0".as_slice() {
         return Ok(Stage::Past(Status::Satisfiable));
     }
     take_literal(left, truth)?;
