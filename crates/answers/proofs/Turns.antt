@@ -1,5 +1,5 @@
 -- What a turn of each loop does.
-use Rattle.std.proofs.Common.{◌≡◌, ℕ, ◌+◌, ◌-◌, ◌%◌, ◌<◌, ◌≤◌, Bool, true, false, cond, ◌&&◌, eqb, ◌⊎◌, List, [], ◌∷◌, ◌++◌, map, length, get_or, take, drop, set, Some, None, Decides, Option, sym, refl, ap, ◌∙◌, inl, inr, arith}
+use Rattle.std.proofs.Common.{subst, ◌≡◌, ℕ, ◌+◌, ◌-◌, ◌%◌, ◌<◌, ◌≤◌, Bool, true, false, cond, ◌&&◌, eqb, ◌⊎◌, List, [], ◌∷◌, ◌++◌, map, length, get_or, take, drop, set, Some, None, Decides, Option, sym, refl, ap, ◌∙◌, inl, inr, arith}
 use Rattle.std.specs.Str.{bytes_eq}
 use Rattle.std.proofs.lemmas.List.Edits.{map_over_more}
 use Rattle.std.proofs.lemmas.Slice.Eq.{bytes_eq-Decides}
@@ -32,6 +32,10 @@ settled_all before now i h l =
 
 differs : (l x : List ℕ) (t : Bool) → Decides t (l ≡ x) → t ≡ false → bytes_eq l x ≡ false
 differs l x t d f = is_false (bytes_eq l x) (λ e. both_ways t f (d.1 ((bytes_eq-Decides l x).0 e)))
+
+-- a test against a text that goes by another name
+pub against : (t : Bool) (l x text : List ℕ) → Decides t (l ≡ x) → x ≡ text → Decides t (l ≡ text)
+against t l x text d e = subst (λ (y : List ℕ). Decides t (l ≡ y)) e d
 
 pub claim_none : (l : List ℕ) (t u v : Bool) → Decides t (l ≡ s_line Satisfiable) → Decides u (l ≡ s_line Unsatisfiable) → Decides v (l ≡ s_line Unknown) → t ≡ false → u ≡ false → v ≡ false → claim_of l ≡ None
 claim_none l t u v dt du dv et eu ev =
