@@ -1,25 +1,22 @@
-// Runs what `write` and `sheet` do on many inputs: each is the letter w or s, a 4-byte length, low byte first, and then its bytes.
+// Runs what `write` does on many inputs: each is a 4-byte length, low byte first, and then its bytes.
 // What it prints is compared with what an independent program made of the same inputs (tests/oracle).
 #![tactic(auto)]
 
-ghost use Rattle.std.specs.Prelude.{◌<◌, ◌≤◌, length, IfSome};
+ghost use Rattle.std.specs.Prelude.{◌≤◌, length, IfSome};
 
-use sheet_call::sheet_request;
+use requests::write_request;
 use std::alloc::Global;
 use std::io::{Read, Write};
-use write_call::write_request;
 
-// Where the input whose letter stands at a place begins and ends, or nothing past the last.
+// Where the input whose length stands at a place begins and ends, or nothing past the last.
 fn record_at(bytes: &[u8], at: usize) -> Option<(usize, usize)>
-    ensures within_bytes { IfSome result (λ p. (at < p.0) × (p.0 ≤ p.1) × (p.1 ≤ length bytes.now)) }
+    ensures within_bytes { IfSome result (λ p. (p.0 ≤ p.1) × (p.1 ≤ length bytes.now)) }
 {
-    if at > bytes.len() || bytes.len() - at < 5 {
+    if at > bytes.len() || bytes.len() - at < 4 {
         return None;
     }
-    let length = bytes[at + 1] as usize
-        + 256 * bytes[at + 2] as usize
-        + 65536 * bytes[at + 3] as usize;
-    let from = at + 5;
+    let length = bytes[at] as usize + 256 * bytes[at + 1] as usize + 65536 * bytes[at + 2] as usize;
+    let from = at + 4;
     if bytes.len() - from < length {
         return None;
     }
@@ -27,13 +24,9 @@ fn record_at(bytes: &[u8], at: usize) -> Option<(usize, usize)>
 }
 
 // What is printed for one input.
-fn answer(heap: Global, number: usize, letter: u8, input: &[u8]) -> anyhow::Result<Vec<u8>> {
+fn answer(heap: Global, number: usize, input: &[u8]) -> anyhow::Result<Vec<u8>> {
     let mut out = format!(in heap; "case {number}\n")?.into_bytes();
-    match letter {
-        b'w' => out.extend_from_slice(&write_request(heap, input)?)?,
-        b's' => out.extend_from_slice(&sheet_request(heap, input)?)?,
-        _ => {}
-    }
+    out.extend_from_slice(&write_request(heap, input)?)?;
     Ok(out)
 }
 
@@ -48,7 +41,7 @@ fn main(rt: HostRuntime) -> anyhow::Result<()> {
             break;
         };
         rt.stdout()
-            .write_all(&answer(heap, number, all[at], &all[from..end])?)?;
+            .write_all(&answer(heap, number, &all[from..end])?)?;
         at = end;
     }
     Ok(())

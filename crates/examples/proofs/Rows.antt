@@ -19,7 +19,7 @@ use Rattle.problem.specs.Listed.{problem_of}
 use Rattle.problem.specs.Verdict.{verdict}
 use Rattle.problem.proofs.Lawful.{lawful_sound}
 use Rattle.planner.specs.Encoded.{encode_checks}
-use Rattle.write_call.specs.Written.{written}
+use Rattle.requests.specs.Written.{written}
 use Rattle.examples.specs.Table.{ExamplesHold, Printed, Prints, texts, refusals, Sized, Sizes, sizes, Encoded, Encodes, encodings, Solved, Solves, sheets, OnlyModel, only_sheets}
 use Rattle.examples.proofs.Replies.{replies_told}
 use Rattle.examples.proofs.Only.{every, tried, meets_all, same, only}

@@ -15,7 +15,7 @@ use Rattle.planner.specs.Encoded.{encode_checks}
 use Rattle.checking.specs.Told.{told, bytes_of}
 use Rattle.decoding.specs.Decode.{decode_tests}
 use Rattle.assigning.specs.Assign.{assign_tests}
-use Rattle.write_call.specs.Written.{written}
+use Rattle.requests.specs.Written.{written}
 use Rattle.sheet_call.specs.Replied.{SheetTold}
 
 -- two facts and two steps; step 1 sets fact 1, and step 2 needs and clears it, and sets fact 2, the goal: 2 2 5, codes 1 5 8 9 10, facts 2 1 1 2 1

@@ -3,12 +3,11 @@ use clauses::{Sink, word_sink};
 use formula::sizes;
 use planner::encode;
 use problem::{Problem, read_problem};
-use requests::refusal_number;
+use requests::{refusal_number, write_request};
 use std::alloc::Global;
 use std::process::Abort;
 use std::test::Fail;
 use steps::{Parallel, Single};
-use write_call::write_request;
 
 const RELAY: &[u8] =
     b"\x02\0\x02\0\x05\0\x01\0\x05\0\x08\0\x09\0\x0a\0\x02\0\x01\0\x01\0\x02\0\x01\0";

@@ -8,7 +8,7 @@ use Rattle.rules.specs.Clauses.{Clause}
 use Rattle.problem.specs.Listed.{problem_of}
 use Rattle.problem.specs.Verdict.{verdict}
 use Rattle.planner.specs.Encoded.{encode_checks}
-use Rattle.requests.specs.Requested.{rule_of}
+use Rattle.requests.specs.Written.{rule_of}
 use Rattle.foreign.specs.Told.{call_verdict}
 
 module _ (s bytes : List ℕ) (rule : Rule) (n : ℕ) (b : bytes ≡ s) (r : rule ≡ rule_of n) where

@@ -14,7 +14,7 @@ use Rattle.rules.specs.Clauses.{Clause}
 use Rattle.problem.specs.Listed.{problem_of}
 use Rattle.problem.specs.Verdict.{verdict}
 use Rattle.planner.specs.Encoded.{encode_checks}
-use Rattle.requests.specs.Requested.{rule_of}
+use Rattle.requests.specs.Written.{rule_of}
 
 -- a count past 2^47 - 1 is told as that
 abbrev pub told_of : Result ℕ Refusal → ℤ

@@ -1,9 +1,92 @@
 // Calls for programs in other languages: a slice passes as a pointer and a length. The benchmark links them.
 #![tactic(auto)]
 
-mod formulas;
+ghost use Rattle.std.specs.Prelude.{◌≡◌, length};
+ghost use Rattle.rules.specs.Refusals.{answer};
+ghost use Rattle.problem.specs.Listed.{problem_of};
+ghost use Rattle.clauses.specs.Rows.{word_cost};
+ghost use Rattle.text.specs.Lines.{text_cost};
+ghost use Rattle.requests.specs.Written.{rule_of};
+ghost use Rattle.requests.specs.Lent.{words_after, text_after};
+ghost use Rattle.foreign.specs.Told.{told_of, call_verdict, Called};
+
 mod sheets;
 mod telling;
 
-pub use formulas::{cabinmedlar_encode_text, cabinmedlar_encode_words};
+use problem::{Problem, read_problem};
+use requests::{encode_text, encode_words, refusal_number};
+use rules::Refusal;
 pub use sheets::{cabinmedlar_assign, cabinmedlar_decode, cabinmedlar_read_answer};
+use steps::{Parallel, Single};
+
+// What was used, or minus the refusal's number.
+pub(crate) fn told(answer: Result<usize, Refusal>) -> i64
+    ensures tells { result ≡ told_of answer }
+{
+    match answer {
+        Ok(used) => used.min(0x7fff_ffff_ffff) as i64,
+        Err(refusal) => -(refusal_number(refusal) as i64),
+    }
+}
+
+fn words_by_number(
+    problem: &[u8],
+    horizon: u16,
+    rule: u16,
+    words: &mut [i32],
+) -> Result<usize, Refusal>
+    ensures refuses_in_order { answer result ≡ call_verdict problem.now horizon rule 4096 (length words.old) word_cost }
+    ensures whole_memory { words_after (problem_of problem.now) (rule_of rule) horizon words.old result words.new }
+{
+    let mut held = Problem::new();
+    read_problem(&mut held, problem)?;
+    match rule {
+        1 => encode_words(&held, horizon as usize, &Single, words),
+        2 => encode_words(&held, horizon as usize, &Parallel, words),
+        _ => Err(Refusal::BadRequest),
+    }
+}
+
+fn text_by_number(
+    problem: &[u8],
+    horizon: u16,
+    rule: u16,
+    text: &mut [u8],
+) -> Result<usize, Refusal>
+    ensures refuses_in_order { answer result ≡ call_verdict problem.now horizon rule 999999 (length text.old) text_cost }
+    ensures whole_memory { text_after (problem_of problem.now) (rule_of rule) horizon text.old result text.new }
+{
+    let mut held = Problem::new();
+    read_problem(&mut held, problem)?;
+    match rule {
+        1 => encode_text(&held, horizon as usize, &Single, text),
+        2 => encode_text(&held, horizon as usize, &Parallel, text),
+        _ => Err(Refusal::BadRequest),
+    }
+}
+
+// The problem's formula into words.
+#[unsafe(no_mangle)]
+pub extern "C" fn cabinmedlar_encode_words(
+    problem: &[u8],
+    horizon: u16,
+    rule: u16,
+    words: &mut [i32],
+) -> i64
+    ensures tells_the_call { Called (call_verdict problem.now horizon rule 4096 (length words.old) word_cost) (words_after (problem_of problem.now) (rule_of rule) horizon words.old) words.new result }
+{
+    told(words_by_number(problem, horizon, rule, words))
+}
+
+// The problem's formula into clause lines.
+#[unsafe(no_mangle)]
+pub extern "C" fn cabinmedlar_encode_text(
+    problem: &[u8],
+    horizon: u16,
+    rule: u16,
+    text: &mut [u8],
+) -> i64
+    ensures tells_the_call { Called (call_verdict problem.now horizon rule 999999 (length text.old) text_cost) (text_after (problem_of problem.now) (rule_of rule) horizon text.old) text.new result }
+{
+    told(text_by_number(problem, horizon, rule, text))
+}

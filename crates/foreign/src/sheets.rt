@@ -6,10 +6,11 @@ ghost use Rattle.problem.specs.Listed.{problem_of};
 ghost use Rattle.decoding.specs.Decode.{decode_tests};
 ghost use Rattle.assigning.specs.Assign.{assign_tests};
 ghost use Rattle.lending.specs.Lent.{lines_after};
-ghost use Rattle.requests.specs.Requested.{rule_of};
+ghost use Rattle.requests.specs.Written.{rule_of};
 ghost use Rattle.foreign.specs.Told.{by_number, told_of, done_told, TestsCalled, truth_after, AnswerCalled};
 
-use crate::telling::{done, status, told};
+use crate::telling::{done, status};
+use crate::told;
 use answers::read_answer;
 use assigning::assign;
 use lending::decode_lines;

@@ -1,20 +1,10 @@
 // How an answer is told as one number.
 ghost use Rattle.std.specs.Prelude.{◌≡◌};
-ghost use Rattle.foreign.specs.Told.{told_of, done_told, status_told};
+ghost use Rattle.foreign.specs.Told.{done_told, status_told};
 
 use answers::Status;
 use requests::refusal_number;
 use rules::Refusal;
-
-// What was used, or minus the refusal's number.
-pub(crate) fn told(answer: Result<usize, Refusal>) -> i64
-    ensures tells { result ≡ told_of answer }
-{
-    match answer {
-        Ok(used) => used.min(0x7fff_ffff_ffff) as i64,
-        Err(refusal) => -(refusal_number(refusal) as i64),
-    }
-}
 
 // 1, 2 or 3 for what the solver says, or minus the refusal's number.
 pub(crate) fn status(answer: Result<Status, Refusal>) -> i64

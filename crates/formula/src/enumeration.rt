@@ -1,9 +1,7 @@
 // The clauses of the formula, in their order. One function for each kind, then the slot, then the whole.
-ghost use Rattle.std.specs.Prelude.{◌≡◌, ℕ, ◌<◌, ◌≤◌, List, [], ◌∷◌};
+ghost use Rattle.std.specs.Prelude.{ℕ, ◌<◌, ◌≤◌, List, [], ◌∷◌};
 ghost use Rattle.rules.specs.Formula.{start_cell, start_clauses, frame_cell, frame_clauses, parted_cell, parted_clauses, slot_clauses, goal_cell, goal_clauses, formula as formula_of};
-ghost use Rattle.rules.specs.Lists.{has};
-ghost use Rattle.steps.specs.Sets.{facts_in};
-ghost use Rattle.problem.specs.Tables.{means, part_of};
+ghost use Rattle.problem.specs.Tables.{means};
 ghost use Rattle.formula.specs.Visits.{Visits};
 ghost use Rattle.formula.specs.Effects.{effect_cell, effect_row, effect_clauses, doers};
 ghost use Rattle.rules.specs.Problems.{steps_of};
@@ -11,7 +9,7 @@ ghost use Rattle.rules.specs.Problems.{steps_of};
 use crate::variables::{aye, effect, fact_variable, nay, step_variable};
 use crate::visitor::{ClauseVisitor, visit_if};
 use problem::{Part, StepTable};
-use steps::{FactSet, SlotRule};
+use steps::SlotRule;
 
 fn start_clause<S, V: ClauseVisitor<S>>(
     table: &StepTable,
@@ -44,34 +42,23 @@ pub(crate) fn each_start<S, V: ClauseVisitor<S>>(
     Ok(())
 }
 
-// Whether the fact is among those that the step needs, sets or clears, which were read once.
-fn listed(table: &StepTable, part: Part, a: usize, set: FactSet, f: usize) -> bool
-    requires { facts_in set ≡ part_of (means table.now) part a }
-    ensures answers_listed { result ≡ has f (part_of (means table.now) part a) }
-{
-    set.contains(f)
-}
-
 fn effect_clause<S, V: ClauseVisitor<S>>(
     table: &StepTable,
     part: Part,
-    set: FactSet,
     u: usize,
     a: usize,
     f: usize,
     v: &V,
     state: &mut S,
 ) -> Result<(), V::Stop>
-    requires { (u < 65536) × ((a ≤ 128) × ((f ≤ 64) × (facts_in set ≡ part_of (means table.now) part a))) }
+    requires { (u < 65536) × ((a ≤ 128) × (f ≤ 64)) }
     ensures visits_effect { Visits (V.ClauseVisitor.one v.now) state.old (effect_cell (means table.now) part u a f) result state.new }
 {
-    // Most facts have nothing to do with the step: no literal is made for those.
-    if !listed(table, part, a, set, f) {
-        return Ok(());
-    }
-    v.visit(
-        state,
+    visit_if(
+        table.has(part, a, f),
         &[nay(step_variable(table, u, a)), effect(table, part, u, f)],
+        v,
+        state,
     )
 }
 
@@ -87,9 +74,8 @@ fn each_effect<S, V: ClauseVisitor<S>>(
     ensures visits_effects { Visits (V.ClauseVisitor.one v.now) state.old (effect_clauses (means table.now) part u) result state.new }
 {
     for a in 1..table.steps + 1 {
-        let set = table.part(part, a);
         for f in 1..table.facts + 1 {
-            effect_clause(table, part, set, u, a, f, v, state)?;
+            effect_clause(table, part, u, a, f, v, state)?;
         }
     }
     Ok(())

@@ -1,2 +1,1 @@
-pub mod Loans
 pub mod SheetLoans

@@ -5,7 +5,7 @@ use Rattle.rules.specs.Checks.{Answers}
 use Rattle.rules.specs.Steps.{Rule}
 use Rattle.rules.specs.Problems.{Problem}
 use Rattle.decoding.specs.Decode.{decode_tests}
-use Rattle.lending.specs.Lent.{rendered_over}
+use Rattle.requests.specs.Lent.{rendered_over}
 
 pub same_tests : (p : Problem) (rule : Rule) (t : ℕ) (truth : List ℕ) (room given n : ℕ) → room ≡ given → Answers (decode_tests p rule t truth room) n → Answers (decode_tests p rule t truth given) n
 same_tests p rule t truth room given n e h = subst (λ k. Answers (decode_tests p rule t truth k) n) e h

@@ -1,20 +1,14 @@
-// `report`: one dash from its step list to clauses for a solver, and from the solver's reply to a sheet that is carried out, told for the workshop. Every figure comes from a call.
+// `report`: one dash from its step list to clauses for a solver, told for the workshop. Every figure comes from a call.
 #![tactic(auto)]
 
 mod dash;
-mod reply;
 
-use answers::read_answer;
-use carrying::carry_out;
 use clauses::{Sink, Source, word_sink};
-use decoding::decode;
 use formula::sizes;
-use memory::List;
 use planner::encode;
 use problem::{Problem, read_problem};
 use requests::refusal_number;
-use rules::{Line, Refusal};
-use std::alloc::Global;
+use rules::Refusal;
 use std::io::Write;
 use steps::{FactSet, Parallel};
 use text::text_sink;
@@ -127,96 +121,6 @@ fn print_text(rt: &HostRuntime, problem: &Problem, bytes: &mut [u8]) -> anyhow::
     Ok(())
 }
 
-// The facts present at the start.
-fn start_state(problem: &Problem) -> FactSet {
-    let mut state = FactSet::empty();
-    for fact in 1..10 {
-        if problem.at_start(fact) {
-            state = state.with(fact);
-        }
-    }
-    state
-}
-
-// One line of the sheet carried out: the state after it, or nothing where the step does not find its needs.
-fn print_line(
-    rt: &HostRuntime,
-    problem: &Problem,
-    line: Line,
-    state: FactSet,
-) -> anyhow::Result<Option<FactSet>> {
-    let (slot, a) = (line.slot, line.step as usize);
-    let Some(step) = problem.step(a) else {
-        return Ok(None);
-    };
-    if a < 1 || a > 8 {
-        return Ok(None);
-    }
-    let name = dash::STEPS[a - 1];
-    println!(rt; "Slot {slot}: {name}")?;
-    let after = carry_out(&step, state);
-    match after {
-        Some(next) => print_facts(rt, "now", next)?,
-        None => println!(rt; "  does not find its needs")?,
-    }
-    Ok(after)
-}
-
-// The sheet carried out line by line, and which goals are reached.
-fn print_done(rt: &HostRuntime, problem: &Problem, lines: &[Line]) -> anyhow::Result<()> {
-    let mut state = start_state(problem);
-    print_facts(rt, "at first", state)?;
-    for i in 0..lines.len() {
-        match print_line(rt, problem, lines[i], state)? {
-            Some(next) => state = next,
-            None => return Ok(()),
-        }
-    }
-    for fact in 1..10 {
-        if problem.is_goal(fact) {
-            let name = dash::FACTS[fact - 1];
-            let reached = if state.contains(fact) {
-                "reached"
-            } else {
-                "missing"
-            };
-            println!(rt; "Goal {reached}: {name}")?;
-        }
-    }
-    Ok(())
-}
-
-// The sheet that the truth values are the model of.
-fn print_sheet(
-    rt: &HostRuntime,
-    problem: &Problem,
-    truth: &[u8],
-    memory: &mut [Line],
-) -> anyhow::Result<()> {
-    let mut sheet = List::new(memory);
-    if let Err(refusal) = decode(problem, SLOTS, &Parallel, truth, &mut sheet) {
-        return print_refusal(rt, refusal);
-    }
-    let count = sheet.len();
-    println!(rt; "It is a model. Its sheet has {count} lines:")?;
-    print_done(rt, problem, sheet.as_slice())
-}
-
-// The solver's reply, read and turned into a sheet.
-fn print_reply(rt: &HostRuntime, heap: Global, problem: &Problem) -> anyhow::Result<()> {
-    let variables = match sizes(problem, SLOTS, &Parallel) {
-        Ok((variables, _, _)) => variables,
-        Err(refusal) => return print_refusal(rt, refusal),
-    };
-    let mut truth = vec![in heap; 0u8; variables]?;
-    match read_answer(reply::ANSWER.as_bytes(), variables, &mut truth) {
-        Ok(status) => println!(rt; "The solver's reply: {status:?}")?,
-        Err(refusal) => return print_refusal(rt, refusal),
-    }
-    let mut memory = vec![in heap; Line { slot: 0, step: 0 }; 40]?;
-    print_sheet(rt, problem, &truth, &mut memory)
-}
-
 fn main(rt: HostRuntime) -> anyhow::Result<()> {
     let heap = rt.alloc();
     let bytes = dash::problem_bytes(heap)?;
@@ -232,6 +136,5 @@ fn main(rt: HostRuntime) -> anyhow::Result<()> {
     let used = print_words(&rt, &problem, &mut words)?;
     print_exact(&rt, &problem, &mut words, used)?;
     let mut text = vec![in heap; 0u8; 65536]?;
-    print_text(&rt, &problem, &mut text)?;
-    print_reply(&rt, heap, &problem)
+    print_text(&rt, &problem, &mut text)
 }

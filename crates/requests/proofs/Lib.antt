@@ -1,1 +1,3 @@
-pub mod Granting
+pub mod Texts
+pub mod Asking
+pub mod Loans

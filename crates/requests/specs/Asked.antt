@@ -5,7 +5,7 @@ use Rattle.rules.specs.Refusals.{number}
 use Rattle.requests.specs.declared.request.Request.{Request}
 use Rattle.requests.specs.declared.request.RuleName.{RuleName}
 use Rattle.requests.specs.declared.request.RuleName.TheVariants.{Single, Parallel}
-use Rattle.requests.specs.Requested.{horizon, rule_number, request_verdict}
+use Rattle.requests.specs.Written.{horizon, rule_number, request_verdict}
 
 -- the rule's number
 abbrev pub number_of : RuleName → ℕ

@@ -1,3 +1,4 @@
 pub mod Printed
-pub mod Requested
+pub mod Written
 pub mod Asked
+pub mod Lent

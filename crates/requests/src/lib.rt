@@ -1,10 +1,12 @@
-// What every program reads first, and how it says that it refuses.
+// What the programs do, as calls from input bytes to output bytes.
 #![tactic(auto)]
 
-mod asking;
+mod lending;
 mod printing;
 mod request;
+mod writing;
 
-pub use asking::read_request;
-pub use printing::{refusal_number, refused_text};
+pub use lending::{encode_text, encode_words};
+pub use printing::{clause_text, refusal_number, refused_text};
 pub use request::{Request, RuleName};
+pub use writing::{read_request, write_request};

@@ -4,7 +4,7 @@ use Rattle.rules.specs.Steps.{Rule}
 use Rattle.problem.specs.Listed.{problem_of}
 use Rattle.problem.specs.Verdict.{verdict}
 use Rattle.requests.specs.Printed.{refused_line}
-use Rattle.requests.specs.Requested.{horizon, rule_number, rule_of, rest, request_verdict}
+use Rattle.requests.specs.Written.{horizon, rule_number, rule_of, rest, request_verdict}
 use Rattle.sheet_call.specs.Replied.{problem_length, problem_in, answer_in, Replied, NoReply, SheetTold}
 
 module _ (s more : List ℕ) (is : more ≡ rest s) (end : ℕ) (at : end ≡ problem_length more) (asked : request_verdict s ≡ 0) where

@@ -15,7 +15,7 @@ use Rattle.answers.specs.declared.status.Status.TheVariants.{Satisfiable, Unsati
 use Rattle.answers.specs.Rendering.{Rendering}
 use Rattle.answers.specs.Answered.{truth_of}
 use Rattle.requests.specs.Printed.{refused_line}
-use Rattle.requests.specs.Requested.{horizon, rule_number, rule_of, rest, request_verdict}
+use Rattle.requests.specs.Written.{horizon, rule_number, rule_of, rest, request_verdict}
 use Rattle.sheet_call.specs.Printed.{sheet_text}
 
 -- how many of these bytes are the problem's: up to where its P says, or all

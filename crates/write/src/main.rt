@@ -1,8 +1,8 @@
 // `write`: T, the rule and a problem on standard input become clause text on standard output.
 #![tactic(auto)]
 
+use requests::write_request;
 use std::io::{Read, Write};
-use write_call::write_request;
 
 // One byte more than an input may have, so that a longer one is seen to be too long and never read to its end.
 const MOST: u64 = 65537;

@@ -47,7 +47,7 @@ impl StepTable {
 
     // The facts that step a needs, sets or clears; a step that is not there has to do with none.
     pub fn part(&self, part: Part, a: usize) -> FactSet
-        ensures answers_part { facts_in result ≡ part_of (means self.now) part a }
+        ensures answers_set { facts_in result ≡ part_of (means self.now) part a }
     {
         if a > 128 {
             return FactSet::empty();
@@ -57,7 +57,7 @@ impl StepTable {
 
     // Whether step a needs, sets or clears the fact.
     pub fn has(&self, part: Part, a: usize, fact: usize) -> bool
-        ensures answers_membership { result ≡ has_fact fact (part_of (means self.now) part a) }
+        ensures answers_part { result ≡ has_fact fact (part_of (means self.now) part a) }
     {
         self.part(part, a).contains(fact)
     }

@@ -4,7 +4,7 @@ use Rattle.rules.specs.Refusals.{answer}
 use Rattle.rules.specs.Steps.{single, parallel}
 use Rattle.decoding.specs.Decode.{decode_tests}
 use Rattle.lending.specs.Lent.{lines_after}
-use Rattle.requests.proofs.Granting.{rule_1, rule_2}
+use Rattle.requests.proofs.Asking.{rule_1, rule_2}
 use Rattle.foreign.proofs.Calls.{moved}
 use Rattle.foreign.proofs.sheets.decode_by_number.Goals as goal
 

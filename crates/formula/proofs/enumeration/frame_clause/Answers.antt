@@ -20,8 +20,8 @@ loop-a-preserved g c =
     elim c.if-has.branch [
       | then-has w ↦ let s : SFits w32 w.aye.result = search rules in
           let x = to_z w32 (of_z w32 w.aye.result) in
-          subst (λ (xs : List ℤ). F xs c.if-has.n (c.loop-a.a + 1)) (sym w.clause-is) (subst (λ (k : ℕ). F (set c.loop-a.clause c.loop-a.n x) k (c.loop-a.a + 1)) (sym w.n-is) (filled_hit p few c.args.part c.args.u c.args.f _ _ _ _ x c.loop-a.invariant c.loop-a-test.true (sym c.has.ensures.answers_membership ∙ w.if-has.true) (word_is _ _ s (w.aye.ensures.positive ∙ ap pos w.step_variable.ensures.value))))
-      | else-has w ↦ subst (λ (xs : List ℤ). F xs c.if-has.n (c.loop-a.a + 1)) (sym w.clause-is) (subst (λ (k : ℕ). F c.loop-a.clause k (c.loop-a.a + 1)) (sym w.n-is) (filled_miss p few c.args.part c.args.u c.args.f _ _ _ _ c.loop-a.invariant c.loop-a-test.true (sym c.has.ensures.answers_membership ∙ w.if-has.false)))
+          subst (λ (xs : List ℤ). F xs c.if-has.n (c.loop-a.a + 1)) (sym w.clause-is) (subst (λ (k : ℕ). F (set c.loop-a.clause c.loop-a.n x) k (c.loop-a.a + 1)) (sym w.n-is) (filled_hit p few c.args.part c.args.u c.args.f _ _ _ _ x c.loop-a.invariant c.loop-a-test.true (sym c.has.ensures.answers_part ∙ w.if-has.true) (word_is _ _ s (w.aye.ensures.positive ∙ ap pos w.step_variable.ensures.value))))
+      | else-has w ↦ subst (λ (xs : List ℤ). F xs c.if-has.n (c.loop-a.a + 1)) (sym w.clause-is) (subst (λ (k : ℕ). F c.loop-a.clause k (c.loop-a.a + 1)) (sym w.n-is) (filled_miss p few c.args.part c.args.u c.args.f _ _ _ _ c.loop-a.invariant c.loop-a-test.true (sym c.has.ensures.answers_part ∙ w.if-has.false)))
     ]
 
 pub returns : goal.returns

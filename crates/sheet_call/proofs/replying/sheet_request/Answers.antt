@@ -3,7 +3,7 @@ use Rattle.std.proofs.lemmas.List.{take_rest}
 use Rattle.rules.specs.Steps.{single, parallel}
 use Rattle.problem.proofs.Refused.{refused}
 use Rattle.requests.specs.Asked.{number_of}
-use Rattle.requests.proofs.Granting.{few_slots, rule_1, rule_2}
+use Rattle.requests.proofs.Asking.{few_slots, rule_1, rule_2}
 use Rattle.sheet_call.proofs.ModelTold.{made_so}
 use Rattle.sheet_call.proofs.Inputs.{bad_problem, good_problem}
 use Rattle.sheet_call.proofs.replying.sheet_request.Goals as goal
@@ -13,7 +13,7 @@ returns-in-Err-read_problem c =
     let s = c.args.input.now in
     let asked = c.in-Ok.ensures.checks_in_order in
     let told = bad_problem s (take (length s - 4) (drop 4 s)) (take_rest s 4) c.problem_end-end.result c.problem_end-end.ensures.ends_problem asked.0 in
-    record { prints_told = made_so c.refused-text_in-Err-read_problem.result _ _ (λ out e. told _ _ c.in-Err-read_problem.ensures.first_broken_rule (refused c.in-Err-read_problem.refusal) e) c.refused-text_in-Err-read_problem.ensures.prints_refusal }
+    record { prints_told = made_so c.refused_text-in-Err-read_problem.result _ _ (λ out e. told _ _ c.in-Err-read_problem.ensures.first_broken_rule (refused c.in-Err-read_problem.refusal) e) c.refused_text-in-Err-read_problem.ensures.prints_refusal }
 
 pub print_reply-requires : goal.print_reply-requires
 print_reply-requires c =
