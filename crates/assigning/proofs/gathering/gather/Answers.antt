@@ -37,7 +37,7 @@ loop-l-preserved c =
     let k = l.slot - 1 in
     let old = get_or c.loop-l.sets k empty_set in
     subst (λ (xs : List Line). Unions p c.args.part xs (set c.loop-l.sets k c.union.result)) (sym (take_more ls i d c.loop-l-test.true))
-    (unions_more p c.args.part (take i ls) l c.loop-l.sets k c.union.result refl w.0 (omega (arith, w.1, c.requires.0)) (λ f. c.union.ensures.joins_facts f ∙ ap (λ (x : List ℕ). has f (facts_in old) || has f x) c.part.ensures.answers_part) c.loop-l.invariant)
+    (unions_more p c.args.part (take i ls) l c.loop-l.sets k c.union.result refl w.0 (omega (arith, w.1, c.requires.0)) (λ f. c.union.ensures.joins_facts f ∙ ap (λ (x : List ℕ). has f (facts_in old) || has f x) c.part.ensures.answers_set) c.loop-l.invariant)
 
 pub returns : goal.returns
 returns c = record { joins_parts = subst (λ (xs : List Line). Unions (means c.args.table.now) c.args.part xs c.loop-l.sets) (take_all c.loop-l.l-index c.args.lines.now c.loop-l-test.false) c.loop-l.invariant }

@@ -8,7 +8,7 @@ use Rattle.sheet_call.proofs.replying.print_answer.Goals as goal
 pub print_model-requires : goal.print_model-requires
 print_model-requires g c =
     let told = c.in-Ok-Satisfiable.ensures.answers_by_case in
-    (c.requires.0, truth_bytes (length c.args.truth.now) _ (told .literals) _ c.requires.1 (told .told))
+    (c.requires.0, truth_bytes (length c.args.truth.now) _ told.literals _ c.requires.1 told.told)
 
 pub returns-in-Err : goal.returns-in-Err
 returns-in-Err g c =
