@@ -1,13 +1,11 @@
 -- A step record carried out is the step of a problem carried out.
-use Rattle.std.proofs.Common.{◌≡◌, ℕ, Bool, true, not, ◌&&◌, ◌||◌, List, Some, None, sym, refl, ap, ◌∙◌, subst}
+use Rattle.std.proofs.Common.{◌≡◌, ℕ, not, ◌&&◌, ◌||◌, List, Some, None, sym, ap, ◌∙◌, subst}
 use Rattle.rules.specs.Lists.{In, has}
 use Rattle.rules.specs.Steps.{Step}
-use Rattle.rules.specs.Problems.{Problem, step}
-use Rattle.rules.specs.States.{Finds, move}
 use Rattle.rules.proofs.Tests.{has_in, in_has}
 use Rattle.steps.specs.declared.fact_set.FactSet.{FactSet}
 use Rattle.steps.specs.declared.step_record.StepRecord.{StepRecord}
-use Rattle.steps.specs.Sets.{facts_in, meaning}
+use Rattle.steps.specs.Sets.{facts_in}
 use Rattle.carrying.specs.Carried.{state_of, FindsNeeds, CarriesStep}
 
 module _ (r : StepRecord) (s : FactSet) where

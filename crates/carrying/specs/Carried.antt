@@ -1,5 +1,5 @@
 -- One step carried out, where a state is the set of the facts that are present.
-use Rattle.std.specs.Prelude.{◌≡◌, ℕ, Bool, true, not, ◌&&◌, ◌||◌, List, [], ◌∷◌, Some, None, Option}
+use Rattle.std.specs.Prelude.{◌≡◌, ℕ, true, not, ◌&&◌, ◌||◌, [], ◌∷◌, Some, None, Option}
 use Rattle.rules.specs.Lists.{has}
 use Rattle.rules.specs.Problems.{Problem, step}
 use Rattle.rules.specs.States.{State, Finds, CarriedOut}

@@ -1,11 +1,11 @@
 -- What `parse` gives of rows that are joined or walked.
-use Rattle.std.proofs.Common.{◌≡◌, ℕ, zero, suc, ◌+◌, ◌-◌, ◌<◌, ◌≤◌, Bool, true, false, cond, ◌||◌, eqb, ltb, ◌⊎◌, List, [], ◌∷◌, ◌++◌, length, get_or, take, drop, set, ℤ, pos, negsuc, nat_abs, Some, None, Option, sym, refl, ap, ◌∙◌, subst, inl, inr, zero-add, arith, w32, SFits, to_z, of_z}
+use Rattle.std.proofs.Common.{◌≡◌, ℕ, zero, suc, ◌+◌, ◌-◌, ◌<◌, ◌≤◌, Bool, true, false, ltb, List, [], ◌∷◌, ◌++◌, length, get_or, take, drop, set, ℤ, pos, negsuc, Some, None, Option, sym, refl, ap, ◌∙◌, subst, arith, w32, SFits, of_z}
 use Rattle.std.proofs.lemmas.Int.{ints}
-use Rattle.std.proofs.lemmas.Bool.{false≢true, true≢false, or_parts, or_from, or_left, or_right, le-ltb, lt-ltb, eq-eqb, ne_eqb, cond-false}
+use Rattle.std.proofs.lemmas.Bool.{false≢true, true≢false, or_parts, cond-false}
 use Rattle.std.proofs.lemmas.List.{at_drop_more, at_drop_all, length-take-le, take_more_set, take_more, take_all, append_assoc, length-drop, length-append, get_or-take, get_or-drop, drop_more}
 use Rattle.rules.specs.Lists.{any}
 use Rattle.rules.specs.Clauses.{Clause, bad_literal, bad_clause, total}
-use Rattle.clauses.specs.Asked.{at0, at1, length_of}
+use Rattle.clauses.specs.Asked.{at0, length_of}
 use Rattle.clauses.specs.Walk.{onto, some_clause, Word}
 use Rattle.clauses.specs.Rows.{flat, parse, is_zero, ends, word_cost, literal0}
 

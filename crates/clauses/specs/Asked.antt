@@ -1,5 +1,5 @@
 -- What a source answers when it is asked by number. Clauses, and literals in a clause, count from 1.
-use Rattle.std.specs.Prelude.{◌≡◌, ℕ, zero, suc, ◌≤◌, Bool, true, false, not, ◌&&◌, List, [], ◌∷◌, length, ℤ, Some, None, Option}
+use Rattle.std.specs.Prelude.{◌≡◌, ℕ, zero, suc, ◌≤◌, Bool, true, not, ◌&&◌, List, [], ◌∷◌, length, ℤ, Some, None, Option}
 use Rattle.rules.specs.Lists.{any}
 use Rattle.rules.specs.Clauses.{Clause, bad_literal}
 

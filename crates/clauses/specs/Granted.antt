@@ -1,6 +1,5 @@
 -- What holds of clauses of which none is bad.
-use Rattle.std.specs.Prelude.{◌≡◌, ℕ, ◌≤◌, Bool, true, false, not, List, [], ◌∷◌, length, nat_lt, refl}
-use Rattle.std.proofs.Common.{lit≤}
+use Rattle.std.specs.Prelude.{◌≡◌, ℕ, ◌≤◌, true, false, not, List, [], ◌∷◌, length, nat_lt, refl}
 use Rattle.std.proofs.lemmas.Bool.{or_parts, and_from, not_from_false}
 use Rattle.rules.specs.Clauses.{Clause, bad_literal, bad_clause}
 use Rattle.rules.specs.Lists.{any}

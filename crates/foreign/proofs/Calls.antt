@@ -1,8 +1,8 @@
 -- A call by the rule's number, once the problem is read.
-use Rattle.std.proofs.Common.{◌≡◌, ℕ, Bool, true, false, cond, not, ◌||◌, eqb, ◌⊎◌, List, [], sym, ap, ◌∙◌, subst, inl, inr, ⊎_elim, arith}
-use Rattle.std.proofs.lemmas.Bool.{cond-true, cond-false, eq-eqb, ne_eqb, or_left, or_right, not_from_true}
+use Rattle.std.proofs.Common.{◌≡◌, ℕ, not, ◌||◌, eqb, ◌⊎◌, List, [], sym, ap, ◌∙◌, subst, ⊎_elim}
+use Rattle.std.proofs.lemmas.Bool.{cond-true, cond-false, eq-eqb, or_left, or_right, not_from_true}
 use Rattle.rules.specs.Checks.{first_refusal}
-use Rattle.rules.specs.Steps.{Rule, single, parallel}
+use Rattle.rules.specs.Steps.{Rule}
 use Rattle.rules.specs.Problems.{Problem}
 use Rattle.rules.specs.Clauses.{Clause}
 use Rattle.problem.specs.Listed.{problem_of}

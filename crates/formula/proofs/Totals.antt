@@ -1,5 +1,5 @@
 -- Sums of weights over the lists that the formula is made of, what a tally comes to, and how much a slot can weigh.
-use Rattle.std.proofs.Common.{◌≡◌, ℕ, zero, suc, ◌+◌, ◌-◌, ◌*◌, ◌^◌, ◌<◌, ◌≤◌, Bool, true, false, cond, ◌⊎◌, List, [], ◌∷◌, ◌++◌, map, length, Ok, Err, filter, Result, sym, refl, ap, ◌∙◌, inl, inr, suc-mul, mul-le-mul_left, mul-suc, arith}
+use Rattle.std.proofs.Common.{◌≡◌, ℕ, zero, suc, ◌+◌, ◌-◌, ◌*◌, ◌^◌, ◌<◌, ◌≤◌, Bool, true, false, cond, List, [], ◌∷◌, ◌++◌, map, length, Ok, Err, filter, Result, sym, refl, ap, ◌∙◌, inl, inr, suc-mul, mul-le-mul_left, mul-suc, arith}
 use Rattle.std.specs.List.{range_with_len}
 use Rattle.std.specs.declared.convert.Infallible.{Infallible}
 use Rattle.std.proofs.lemmas.List.FromFn.{length-range_with_len}

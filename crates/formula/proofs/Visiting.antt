@@ -1,10 +1,10 @@
 -- Visits of lists that are put together, and a loop that makes such a visit.
-use Rattle.std.proofs.Common.{◌≡◌, ℕ, ◌+◌, ◌-◌, ◌<◌, ◌≤◌, ◌⊎◌, List, [], ◌∷◌, ◌++◌, Ok, Err, Result, sym, refl, subst, inl, inr, arith}
+use Rattle.std.proofs.Common.{◌≡◌, ℕ, ◌+◌, ◌-◌, ◌<◌, ◌≤◌, List, [], ◌∷◌, ◌++◌, Ok, Err, Result, sym, refl, subst, inl, inr, arith}
 use Rattle.std.specs.List.{range_with_len}
 use Rattle.rules.specs.Lists.{each}
 use Rattle.rules.specs.Clauses.{Clause}
 use Rattle.rules.proofs.Counting.{counting_next, counting_over}
-use Rattle.formula.specs.Visits.{Visits, Stops}
+use Rattle.formula.specs.Visits.{Visits}
 
 module _ {S E : Type 0} (one : S → Clause → Result Unit E → S → Type 0) where
   pub visits_then : (xs ys : List Clause) (a b c : S) (r : Result Unit E) → Visits one a xs (Ok tt) b → Visits one b ys r c → Visits one a (xs ++ ys) r c

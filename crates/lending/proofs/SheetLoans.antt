@@ -1,5 +1,5 @@
 -- The lent memory after decode, from what the list holds and spares.
-use Rattle.std.proofs.Common.{◌≡◌, ℕ, List, [], ◌++◌, length, take, drop, sym, refl, ap, ◌∙◌, subst}
+use Rattle.std.proofs.Common.{◌≡◌, ℕ, List, [], ◌++◌, length, take, drop, sym, ap, ◌∙◌, subst}
 use Rattle.std.proofs.lemmas.List.{take-append-drop}
 use Rattle.rules.specs.Checks.{Answers}
 use Rattle.rules.specs.Steps.{Rule}

@@ -1,10 +1,10 @@
 -- What the formula costs, and that the sum fits.
-use Rattle.std.proofs.Common.{◌≡◌, ℕ, ◌+◌, ◌*◌, ◌^◌, ◌<◌, ◌≤◌, ◌⊎◌, List, [], ◌∷◌, length, Ok, Err, Result, sym, ap, ◌∙◌, inl, inr, mul-le-mul, arith}
+use Rattle.std.proofs.Common.{◌≡◌, ℕ, ◌+◌, ◌*◌, ◌^◌, ◌<◌, ◌≤◌, List, [], ◌∷◌, length, Result, inl, inr, mul-le-mul, arith}
 use Rattle.std.specs.declared.convert.Infallible.{Infallible}
 use Rattle.rules.specs.Steps.{Rule}
 use Rattle.rules.specs.Problems.{Problem}
 use Rattle.rules.specs.Clauses.{Clause, total, literals}
-use Rattle.rules.specs.Formula.{start_clauses, slot_clauses, goal_clauses, formula}
+use Rattle.rules.specs.Formula.{slot_clauses, formula}
 use Rattle.formula.specs.Visits.{Visits}
 use Rattle.formula.proofs.Totals.{no_stop, formula_total, length_total, few_slot, few_starts, few_goals}
 use Rattle.planner.specs.Steps.{Costed}

@@ -1,7 +1,6 @@
 -- When encode grants, and what the clauses that it leaves in the sink mean.
-use Rattle.std.specs.Prelude.{◌≡◌, ℕ, ◌≤◌, Bool, List, [], ◌∷◌, length, drop, Ok, Err, Result, ◌==◌, nat_le}
+use Rattle.std.specs.Prelude.{ℕ, List, [], ◌∷◌, length, drop, Ok, Err, Result, ◌==◌, nat_le}
 use Rattle.rules.specs.declared.line.Line.{Line}
-use Rattle.rules.specs.declared.refusal.Refusal.{Refusal}
 use Rattle.rules.specs.Checks.{Checks}
 use Rattle.rules.specs.Steps.{Rule}
 use Rattle.rules.specs.Problems.{Problem}

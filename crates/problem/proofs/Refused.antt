@@ -1,5 +1,5 @@
 -- No refusal has the number of a grant.
-use Rattle.std.proofs.Common.{◌≡◌, ℕ, arith}
+use Rattle.std.proofs.Common.{◌≡◌, arith}
 use Rattle.rules.specs.declared.refusal.Refusal.{Refusal}
 use Rattle.rules.specs.declared.refusal.Refusal.TheVariants.{TooShort, HeadOutOfRange, WrongLength, UnknownPair, PairsNotRising, SetsAndClears, BadRequest, BadClause, NoSpace, SinkNotEmpty, TooManyVariables, NotClauseText, NotAnAnswer, BadTruthMemory, NotAModel, BadSheetLines, SheetDoesNotHold, NotAsNoted, BadLemma, NotShown, CutTooLong}
 use Rattle.rules.specs.Refusals.{number}

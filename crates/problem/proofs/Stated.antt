@@ -5,7 +5,7 @@ use Rattle.std.proofs.lemmas.Bool.{cases_lt}
 use Rattle.rules.specs.Lists.{has}
 use Rattle.rules.specs.Problems.{Problem}
 use Rattle.steps.specs.declared.fact_set.FactSet.{FactSet}
-use Rattle.problem.specs.Bytes.{facts, steps, pairs, Sized}
+use Rattle.problem.specs.Bytes.{facts, steps, pairs}
 use Rattle.problem.specs.Listed.{listed, problem_of}
 use Rattle.problem.specs.Verdict.{verdict}
 use Rattle.problem.specs.Collected.{empty_set, Collects}

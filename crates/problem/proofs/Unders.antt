@@ -1,10 +1,8 @@
 -- What a table lists under a code.
-use Rattle.std.proofs.Common.{◌≡◌, ℕ, ◌+◌, ◌*◌, ◌<◌, ◌≤◌, Bool, true, false, List, [], length, get_or, sym, refl, ap, ◌∙◌, arith}
+use Rattle.std.proofs.Common.{◌≡◌, ℕ, ◌+◌, ◌*◌, ◌<◌, ◌≤◌, List, [], length, sym, refl, ap, ◌∙◌, arith}
 use Rattle.std.proofs.lemmas.List.{get_or_past}
-use Rattle.rules.specs.Lists.{has}
-use Rattle.rules.specs.Problems.{Problem, step}
+use Rattle.rules.specs.Problems.{step}
 use Rattle.steps.specs.declared.fact_set.FactSet.{FactSet}
-use Rattle.steps.specs.declared.step_record.StepRecord.{StepRecord}
 use Rattle.steps.specs.Sets.{facts_in, meaning}
 use Rattle.problem.specs.declared.part.Part.{Part}
 use Rattle.problem.specs.declared.part.Part.TheVariants.{Needs, Sets, Clears}

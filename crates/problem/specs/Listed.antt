@@ -1,5 +1,5 @@
 -- What the pairs list under each code, and the problem that they state.
-use Rattle.std.specs.Prelude.{ℕ, zero, suc, ◌+◌, ◌*◌, Bool, true, false, ◌&&◌, ◌||◌, List, filter, ◌==◌}
+use Rattle.std.specs.Prelude.{ℕ, zero, suc, ◌+◌, ◌*◌, Bool, false, ◌&&◌, ◌||◌, List, filter, ◌==◌}
 use Rattle.std.specs.List.{range_with_len}
 use Rattle.rules.specs.Problems.{Problem}
 use Rattle.problem.specs.Bytes.{facts, steps, pairs, code, fact}

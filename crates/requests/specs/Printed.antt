@@ -1,5 +1,5 @@
 -- The lines that the programs print.
-use Rattle.std.specs.Prelude.{ℕ, List, [], ◌∷◌, ◌++◌, codes, decimal}
+use Rattle.std.specs.Prelude.{ℕ, List, ◌++◌, codes, decimal}
 
 -- `p cnf V C` and a line feed
 abbrev pub head_line : ℕ → ℕ → List ℕ

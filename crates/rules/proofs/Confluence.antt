@@ -1,5 +1,5 @@
 -- Whether propagation comes to a false clause does not depend on its order.
-use Rattle.std.proofs.Common.{◌≡◌, ℕ, ◌⊎◌, List, [], ◌∷◌, get_or, ℤ, neg_ℤ, sym, ap, ◌∙◌, subst, inl, inr, ⊎_elim}
+use Rattle.std.proofs.Common.{◌≡◌, ℕ, List, [], ◌∷◌, get_or, ℤ, neg_ℤ, sym, ap, ◌∙◌, subst, inl, inr, ⊎_elim}
 use lib.IntN.{neg_ℤ-neg_ℤ, ℤ_discrete}
 use Rattle.rules.specs.Lists.{In}
 use Rattle.rules.specs.Clauses.{Clause}

@@ -1,5 +1,5 @@
 -- The formula of a problem at a horizon: its variables, and its clauses in their exact order.
-use Rattle.std.specs.Prelude.{ℕ, suc, ◌+◌, ◌-◌, ◌*◌, Bool, cond, List, [], ◌∷◌, ◌++◌, map, filter}
+use Rattle.std.specs.Prelude.{ℕ, suc, ◌+◌, ◌-◌, ◌*◌, cond, List, [], ◌∷◌, ◌++◌, map, filter}
 use Rattle.std.specs.List.{range_with_len}
 use Rattle.rules.specs.Lists.{has, each, only}
 use Rattle.rules.specs.Steps.{Rule}

@@ -1,5 +1,5 @@
 -- The theorems on sheets and the formula.
-use Rattle.std.specs.Prelude.{◌≡◌, ℕ, suc, ◌<◌, ◌≤◌, Bool, true, ◌↔◌, List, length}
+use Rattle.std.specs.Prelude.{◌≡◌, ℕ, suc, ◌<◌, ◌≤◌, Bool, true, ◌↔◌, List}
 use Rattle.std.specs.List.{range_with_len}
 use Rattle.rules.specs.declared.line.Line.{Line}
 use Rattle.rules.specs.Lists.{In, Once, each}

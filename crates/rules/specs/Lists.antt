@@ -1,5 +1,5 @@
 -- Words on lists. A finite set is a list, by what stands in it.
-use Rattle.std.specs.Prelude.{◌≡◌, ℕ, Bool, true, false, cond, ◌||◌, ◌⊎◌, List, [], ◌∷◌, ◌++◌, nat_eq}
+use Rattle.std.specs.Prelude.{◌≡◌, ℕ, Bool, false, cond, ◌||◌, ◌⊎◌, List, [], ◌∷◌, ◌++◌, nat_eq}
 
 -- x stands in the list
 abbrev pub In : {X : Type 0} → X → List X → Type 0

@@ -1,10 +1,10 @@
 -- Sheets: which steps stand in which slots, when that holds, and its model.
-use Rattle.std.specs.Prelude.{◌≡◌, ℕ, zero, suc, ◌+◌, ◌-◌, ◌/◌, ◌%◌, ◌<◌, ◌≤◌, Bool, true, false, cond, ◌⊎◌, List, [], ◌∷◌, map, filter, ◌==◌, nat_lt}
+use Rattle.std.specs.Prelude.{◌≡◌, ℕ, zero, suc, ◌+◌, ◌-◌, ◌/◌, ◌%◌, ◌<◌, Bool, true, cond, ◌⊎◌, List, [], ◌∷◌, map, filter, ◌==◌, nat_lt}
 use Rattle.std.specs.List.{range_with_len, AllByRecursion}
 use Rattle.rules.specs.declared.line.Line.{Line}
 use Rattle.rules.specs.Lists.{In, has, each, only}
 use Rattle.rules.specs.Steps.{Rule}
-use Rattle.rules.specs.Problems.{Problem, facts_of, steps_of}
+use Rattle.rules.specs.Problems.{Problem, steps_of}
 use Rattle.rules.specs.States.{State, Allowed, after, start_state}
 use Rattle.rules.specs.Clauses.{Valuation}
 use Rattle.rules.specs.Formula.{width, step_var, vars}

@@ -1,5 +1,5 @@
 -- What reading an answer into a byte for each variable comes to.
-use Rattle.std.proofs.Common.{◌≡◌, ℕ, ◌+◌, ◌≤◌, Bool, true, false, cond, ◌⊎◌, List, [], ◌∷◌, map, length, ℤ, sym, refl, ap, ◌∙◌, subst, inl, inr, arith}
+use Rattle.std.proofs.Common.{◌≡◌, ℕ, ◌+◌, ◌≤◌, Bool, true, false, cond, ◌⊎◌, List, [], ◌∷◌, map, length, ℤ, sym, ap, ◌∙◌, subst, inl, inr, arith}
 use Rattle.std.specs.List.{range_with_len, AllByRecursion}
 use Rattle.std.proofs.lemmas.List.{length-map}
 use Rattle.rules.specs.declared.refusal.Refusal.{Refusal}
@@ -8,7 +8,6 @@ use Rattle.rules.specs.Refusals.{number}
 use Rattle.rules.specs.Problems.{Problem}
 use Rattle.rules.specs.Formula.{vars}
 use Rattle.checking.specs.Told.{TruthBytes}
-use Rattle.answers.specs.declared.status.Status.{Status}
 use Rattle.answers.specs.Rendering.{Rendering}
 use Rattle.answers.specs.Answered.{affirms, truth_value, truth_of, BadMemory, NoAnswer}
 use Rattle.requests.specs.Printed.{refused_line}

@@ -1,5 +1,5 @@
 -- From the parts of an input to what is printed.
-use Rattle.std.proofs.Common.{◌≡◌, ℕ, ◌-◌, ◌≤◌, ◌⊎◌, List, take, drop, sym, refl, ap, ◌∙◌, subst, inl, inr, arith}
+use Rattle.std.proofs.Common.{◌≡◌, ℕ, ◌-◌, ◌⊎◌, List, take, drop, sym, ap, ◌∙◌, subst, inl, inr, arith}
 use Rattle.rules.specs.Steps.{Rule}
 use Rattle.problem.specs.Listed.{problem_of}
 use Rattle.problem.specs.Verdict.{verdict}

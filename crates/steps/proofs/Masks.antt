@@ -1,11 +1,11 @@
 -- Sets of facts as bits: one bit more, and common bits.
-use Rattle.std.proofs.Common.{◌≡◌, ℕ, zero, suc, ◌+◌, ◌-◌, ◌*◌, ◌/◌, ◌%◌, ◌^◌, ◌<◌, ◌≤◌, min, max, Bool, true, false, cond, not, ◌&&◌, ◌||◌, eqb, ltb, leb, ◌⊎◌, List, [], ◌∷◌, sym, refl, ap, ◌∙◌, subst, inl, inr, ⊎_elim, one-mul, arith}
+use Rattle.std.proofs.Common.{◌≡◌, ℕ, zero, suc, ◌+◌, ◌-◌, ◌*◌, ◌/◌, ◌%◌, ◌^◌, ◌<◌, ◌≤◌, min, max, Bool, true, false, not, ◌&&◌, ◌||◌, eqb, leb, ◌⊎◌, List, [], ◌∷◌, sym, refl, ap, ◌∙◌, inl, inr, ⊎_elim, one-mul, arith}
 use mathlib.Core.Bool.{false≢true}
 use native.Mathlib.Nat.{pow-succ', zero-div}
 use lib.Bits.{bit_and, bit_or, and_shr, and_step, or_shr, or_step, and_lt}
 use Rattle.std.proofs.lemmas.Nat.{shr-shr, pow_pos, shl-shr, pow-add, pow_below, div_below}
-use Rattle.std.proofs.lemmas.Bool.{cases_Bool, cases_eq, cases_lt, eq-eqb, ne_eqb, eqb-true, eqb-false, or_cases, or_left, or_right, and_parts, not_from_false, not-true, or_from, and_left, and_from, and_right, le-leb, lt-leb}
-use Rattle.rules.specs.Lists.{any, has, shares}
+use Rattle.std.proofs.lemmas.Bool.{cases_eq, cases_lt, eq-eqb, ne_eqb, eqb-true, eqb-false, or_cases, or_left, or_right, not_from_false, not-true, or_from, and_left, and_from, and_right, le-leb, lt-leb}
+use Rattle.rules.specs.Lists.{has, shares}
 use Rattle.steps.specs.declared.fact_set.FactSet.{FactSet}
 use Rattle.steps.specs.Sets.{bit, facts_in}
 use Rattle.rules.proofs.Tests.{same}

@@ -3,8 +3,8 @@ use Rattle.std.proofs.Common.{◌≡◌, ℕ, ◌+◌, ◌-◌, ◌/◌, ◌%◌
 use lib.Signed.{lt_z}
 use mir.Val.{bool_byte}
 use Rattle.text.specs.Lines.{literal_text}
-use Rattle.std.proofs.lemmas.Fmt.{decimal_digit, decimal_step, decimal_nonempty}
-use Rattle.std.proofs.lemmas.List.{append_assoc, length-append, length-set, length-take-le, drop_more, drop-set, drop-set-lt, drop_all, take-set, take-set-le, take_more_set, take_all, take-take, take_at, drop_at, take-append-drop, get_or_at, get_or-take, get_or-set_same}
+use Rattle.std.proofs.lemmas.Fmt.{decimal_digit, decimal_step}
+use Rattle.std.proofs.lemmas.List.{append_assoc, length-append, length-set, length-take-le, drop_more, drop-set, drop_all, take-set, take-set-le, take_more_set, take_all, take-take, take_at, drop_at, take-append-drop, get_or_at, get_or-take, get_or-set_same}
 use Rattle.std.proofs.lemmas.Bool.{cases_lt, cases_Bool}
 use Rattle.text.proofs.Written.{one_digit, digit_more, literal_positive, literal_negative}
 

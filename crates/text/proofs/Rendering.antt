@@ -1,6 +1,6 @@
 -- Lines of text, as a sink keeps them.
-use Rattle.std.proofs.Common.{◌≡◌, ℕ, zero, suc, ◌+◌, ◌-◌, ◌<◌, ◌≤◌, Bool, true, false, cond, eqb, ltb, List, [], ◌∷◌, ◌++◌, length, get_or, take, drop, set, ℤ, pos, sym, refl, ap, ◌∙◌, subst, arith}
-use Rattle.std.proofs.lemmas.List.{length-append, length-drop, length-set, length-take-le, append_assoc, append-nil, take_all, take_more, take_more_set, drop-drop, drop-set-lt}
+use Rattle.std.proofs.Common.{◌≡◌, ℕ, zero, suc, ◌+◌, ◌-◌, ◌<◌, ◌≤◌, Bool, true, false, cond, eqb, ltb, List, [], ◌∷◌, ◌++◌, length, get_or, take, drop, set, pos, sym, refl, ap, ◌∙◌, subst, arith}
+use Rattle.std.proofs.lemmas.List.{length-append, length-set, length-take-le, append_assoc, append-nil, take_all, take_more, take_more_set, drop-drop, drop-set-lt}
 use Rattle.std.proofs.lemmas.Bool.{or_parts, cond-false, cond_both}
 use Rattle.rules.specs.Lists.{any, each}
 use Rattle.rules.specs.Clauses.{Clause, bad_clause, total}

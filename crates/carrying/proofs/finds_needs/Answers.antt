@@ -1,4 +1,4 @@
-use Rattle.std.proofs.Common.{◌≡◌, true, sym, ◌∙◌, true≢false}
+use Rattle.std.proofs.Common.{sym, ◌∙◌, true≢false}
 use Rattle.carrying.proofs.Facts.{found_none, found_more, found_all}
 use Rattle.carrying.proofs.finds_needs.Goals as goal
 use Rattle.carrying.proofs.finds_needs.Goals.{else-contains-via-then-contains+else-not-contains, else-contains-via-else-contains}

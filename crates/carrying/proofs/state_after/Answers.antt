@@ -1,6 +1,4 @@
-use Rattle.std.proofs.Common.{◌≡◌, ℕ, ◌<◌, ◌≤◌, Bool, true, false, not, ◌&&◌, ◌||◌, eqb, leb, sym, refl, ap, ◌∙◌, arith}
-use Rattle.rules.specs.Lists.{has}
-use Rattle.steps.specs.Sets.{facts_in}
+use Rattle.std.proofs.Common.{◌≡◌, ℕ, ◌&&◌, ◌||◌, eqb, sym, ap, ◌∙◌}
 use Rattle.steps.specs.declared.fact_set.FactSet.{FactSet}
 use Rattle.carrying.specs.Carried.{state_of}
 use Rattle.carrying.proofs.Facts.{filled_none, filled_more, filled_all, put_one, put_none}

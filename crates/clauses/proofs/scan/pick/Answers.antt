@@ -1,4 +1,4 @@
-use Rattle.std.proofs.Common.{◌≡◌, ◌+◌, ◌-◌, ◌<◌, ◌≤◌, length, get_or, pos, Some, sym, ap, ◌∙◌, arith, w32, SFits, of_z, rules}
+use Rattle.std.proofs.Common.{◌+◌, ◌<◌, length, get_or, pos, Some, sym, ap, ◌∙◌, w32, SFits, rules}
 use Rattle.std.proofs.lemmas.Int.{to_z-of_z}
 use Rattle.clauses.proofs.Rows.{pick_within, pick_in, pick_out}
 use Rattle.clauses.proofs.scan.pick.Goals as goal

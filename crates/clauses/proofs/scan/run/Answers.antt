@@ -1,4 +1,4 @@
-use Rattle.std.proofs.Common.{◌≡◌, ◌+◌, ◌-◌, ◌<◌, ◌≤◌, get_or, drop, pos, sym, ap, ◌∙◌, arith, w32, SFits, of_z, rules}
+use Rattle.std.proofs.Common.{◌≡◌, ◌+◌, ◌-◌, get_or, drop, pos, sym, ap, ◌∙◌, arith, w32, SFits, of_z, rules}
 use Rattle.clauses.proofs.Rows.{run_zero, run_word, run_end, zero_of, more, first_len}
 use Rattle.clauses.proofs.scan.run.Goals as goal
 

@@ -1,4 +1,4 @@
-use Rattle.std.proofs.Common.{◌≡◌, ◌-◌, ◌<◌, get_or, drop, pos, sym, ap, ◌∙◌, arith, w32, SFits, of_z, rules}
+use Rattle.std.proofs.Common.{◌<◌, get_or, drop, pos, sym, ap, ◌∙◌, arith, w32, SFits, of_z, rules}
 use Rattle.clauses.specs.Asked.{at0}
 use Rattle.clauses.specs.Rows.{parse}
 use Rattle.clauses.proofs.Rows.{seek_zero, seek_word, seek_end, zero_of}

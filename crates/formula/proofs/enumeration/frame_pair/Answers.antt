@@ -1,4 +1,4 @@
-use Rattle.std.proofs.Common.{◌≡◌, ℕ, suc, [], ◌∷◌, pos, neg_ℤ, Ok, ap, ◌∙◌, add-one, w32, SFits, rules}
+use Rattle.std.proofs.Common.{◌≡◌, suc, [], ◌∷◌, pos, neg_ℤ, Ok, ap, ◌∙◌, add-one, w32, SFits, rules}
 use Rattle.rules.specs.Problems.{steps_of}
 use Rattle.rules.specs.Formula.{fact_var, comes, goes}
 use Rattle.problem.specs.declared.part.Part.TheVariants.{Sets, Clears}

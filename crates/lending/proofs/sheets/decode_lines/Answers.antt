@@ -1,4 +1,4 @@
-use Rattle.std.proofs.Common.{◌≡◌, ℕ, min, length, take, drop, sym, refl, ap, ◌∙◌, rules}
+use Rattle.std.proofs.Common.{min, length, ◌∙◌, rules}
 use Rattle.std.proofs.lemmas.Result.{err_from_is_err_and}
 use Rattle.rules.specs.Clauses.{value}
 use Rattle.rules.specs.Sheets.{sheet_of}

@@ -1,10 +1,10 @@
-use Rattle.std.proofs.Common.{◌≡◌, ℕ, ◌-◌, ◌<◌, ◌≤◌, leb, List, [], length, drop, Result, sym, refl, ap, ◌∙◌, arith}
+use Rattle.std.proofs.Common.{◌≡◌, ◌-◌, ◌<◌, ◌≤◌, leb, length, drop, Result, sym, refl, ap, ◌∙◌, arith}
 use Rattle.std.proofs.lemmas.List.{nil_from_length}
 use Rattle.std.proofs.lemmas.Bool.{leb-true, leb-false}
 use Rattle.rules.specs.declared.refusal.Refusal.{Refusal}
 use Rattle.rules.specs.Refusals.{answer}
 use Rattle.rules.specs.Problems.{Problem}
-use Rattle.rules.specs.Clauses.{Clause, total}
+use Rattle.rules.specs.Clauses.{total}
 use Rattle.rules.specs.Formula.{vars, formula}
 use Rattle.problem.specs.Listed.{problem_of}
 use Rattle.problem.specs.Tables.{means}

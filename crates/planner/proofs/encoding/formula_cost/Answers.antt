@@ -1,4 +1,4 @@
-use Rattle.std.proofs.Common.{◌≡◌, ◌+◌, ◌^◌, ◌<◌, ◌∙◌, arith}
+use Rattle.std.proofs.Common.{◌^◌, ◌<◌, arith}
 use Rattle.rules.specs.Clauses.{total}
 use Rattle.rules.specs.Formula.{formula}
 use Rattle.problem.specs.Tables.{means}

@@ -1,4 +1,4 @@
-use Rattle.std.proofs.Common.{◌≡◌, ◌-◌, ◌≤◌, sym, ◌∙◌, arith}
+use Rattle.std.proofs.Common.{◌-◌, ◌≤◌, sym, arith}
 use Rattle.std.proofs.lemmas.Bool.{le-leb}
 use Rattle.rules.specs.Clauses.{total}
 use Rattle.rules.specs.Formula.{formula}

@@ -1,4 +1,4 @@
-use Rattle.std.proofs.Common.{◌≤◌, cond, sym, ◌∙◌, arith}
+use Rattle.std.proofs.Common.{◌≤◌, sym, ◌∙◌, arith}
 use Rattle.std.proofs.lemmas.Bool.{cond-true, cond-false}
 use Rattle.problem.specs.Bytes.{facts}
 use Rattle.problem.proofs.Collecting.{meets_clashes, clash_all, clash_here, clash_later, clash_over}

@@ -1,5 +1,4 @@
-use Rattle.std.proofs.Common.{◌≡◌, ◌<◌, arith}
-use Rattle.problem.specs.Bytes.{code, steps}
+use Rattle.std.proofs.Common.{arith}
 use Rattle.problem.proofs.Lawful.{scan_known}
 use Rattle.problem.proofs.Collecting.{collect_none, collect_more, code_in}
 use Rattle.problem.proofs.reading.collect.Goals as goal

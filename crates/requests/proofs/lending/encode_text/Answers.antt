@@ -1,4 +1,4 @@
-use Rattle.std.proofs.Common.{◌≡◌, ◌≤◌, map, length, take, drop, pos, sym, ap, ◌∙◌, arith, rules}
+use Rattle.std.proofs.Common.{map, length, take, drop, pos, ap, ◌∙◌, rules}
 use Rattle.std.proofs.lemmas.Result.{err_from_is_err_and}
 use Rattle.rules.specs.Clauses.{total}
 use Rattle.rules.specs.Formula.{formula}

@@ -1,5 +1,4 @@
-use Rattle.std.proofs.Common.{◌≡◌, ℕ, ◌≤◌, List, length, take, IfOk, vec_items, sym, ap, ◌∙◌, subst, arith}
-use Rattle.rules.specs.Clauses.{Clause}
+use Rattle.std.proofs.Common.{◌≡◌, ℕ, List, length, take, IfOk, vec_items, ap, ◌∙◌, subst}
 use Rattle.clauses.specs.Rows.{parse}
 use Rattle.text.specs.Lines.{lines_text}
 use Rattle.text.specs.Scan.{numbers}

@@ -1,4 +1,4 @@
-use Rattle.std.proofs.Common.{◌≡◌, ℕ, ◌≤◌, List, length, IfOk as made, vec_items, sym, ap, ◌∙◌, subst, arith, rules}
+use Rattle.std.proofs.Common.{◌≡◌, ℕ, ◌≤◌, List, IfOk as made, vec_items, sym, ap, ◌∙◌, subst, arith, rules}
 use Rattle.rules.specs.Steps.{single, parallel}
 use Rattle.problem.proofs.Refused.{refused}
 use Rattle.requests.specs.Asked.{number_of}

@@ -1,4 +1,4 @@
-use Rattle.std.proofs.Common.{◌≡◌, ℕ, List, ◌++◌, ap}
+use Rattle.std.proofs.Common.{ℕ, List, ◌++◌, ap}
 use Rattle.sheet_call.specs.Printed.{sheet_text}
 use Rattle.sheet_call.proofs.PrintedLines.{printed_more, printed_all}
 use Rattle.sheet_call.proofs.printing.sheet_text.Goals as goal

@@ -1,5 +1,4 @@
-use Rattle.std.proofs.Common.{◌≡◌, ℕ, length, sym, refl, ◌∙◌, inl, inr}
-use Rattle.rules.specs.Formula.{vars}
+use Rattle.std.proofs.Common.{length, refl, inr}
 use Rattle.problem.specs.Listed.{problem_of}
 use Rattle.sheet_call.proofs.ModelTold.{made_so}
 use Rattle.sheet_call.proofs.AnswersTold.{truth_bytes, only_13}

@@ -1,14 +1,11 @@
-use Rattle.std.proofs.Common.{◌≡◌, ℕ, ◌≤◌, ◌⊎◌, List, length, vec_items, sym, refl, ap, ◌∙◌, subst, inl, inr, arith, rules}
-use Rattle.rules.specs.declared.line.Line.{Line}
+use Rattle.std.proofs.Common.{◌≡◌, length, refl, ap, ◌∙◌, inl, inr, arith, rules}
 use Rattle.rules.specs.Clauses.{value}
-use Rattle.rules.specs.Sheets.{Sheet, Holds, sheet_of}
 use Rattle.problem.specs.Listed.{problem_of}
 use Rattle.problem.proofs.Lawful.{lawful_head}
 use Rattle.memory.specs.Held.{items, room}
 use Rattle.checking.specs.Told.{told}
 use Rattle.requests.specs.Printed.{refused_line}
 use Rattle.sheet_call.specs.Printed.{sheet_text}
-use Rattle.sheet_call.specs.Replied.{SheetPrinted, NoModel}
 use Rattle.sheet_call.proofs.ModelTold.{made_so, sheet_short, only_15}
 use Rattle.sheet_call.proofs.replying.print_model.Goals as goal
 

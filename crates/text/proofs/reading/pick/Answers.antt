@@ -1,4 +1,4 @@
-use Rattle.std.proofs.Common.{◌≡◌, ℕ, drop, ℤ, Some, sym, ap, ◌∙◌, w32, SFits, of_z, rules}
+use Rattle.std.proofs.Common.{ℕ, drop, Some, sym, ap, ◌∙◌, w32, SFits, of_z, rules}
 use Rattle.std.proofs.lemmas.Int.{to_z-of_z}
 use Rattle.clauses.specs.Asked.{at0}
 use Rattle.clauses.specs.Rows.{parse, literal0}

@@ -1,4 +1,4 @@
-use Rattle.std.proofs.Common.{◌≡◌, ℕ, ◌+◌, ◌-◌, ◌%◌, ◌<◌, ◌≤◌, false, eqb, ltb, List, [], ◌∷◌, ◌++◌, length, take, drop, set, ℤ, pos, nat_abs, decimal, sym, refl, ap, ◌∙◌, arith, length-set, w32, SFits, to_z, of_z, rules}
+use Rattle.std.proofs.Common.{◌≡◌, ℕ, ◌+◌, ◌-◌, ◌%◌, ◌<◌, ◌≤◌, false, eqb, ltb, List, [], ◌∷◌, ◌++◌, length, take, set, ℤ, pos, nat_abs, decimal, sym, refl, ap, ◌∙◌, arith, length-set, w32, SFits, to_z, of_z, rules}
 use lib.Signed.{lt_z}
 use mir.Val.{bool_byte}
 use Rattle.std.proofs.lemmas.List.{take-set-le, drop-set-lt}

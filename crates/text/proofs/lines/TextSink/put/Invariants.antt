@@ -1,4 +1,4 @@
-use Rattle.std.proofs.Common.{◌≡◌, ℕ, List, take, set, decimal}
+use Rattle.std.proofs.Common.{◌≡◌, take, decimal}
 use Rattle.text.proofs.Places.{Partly}
 use Rattle.text.proofs.lines.TextSink.put.Given as goal
 

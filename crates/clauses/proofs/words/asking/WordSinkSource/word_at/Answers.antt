@@ -1,4 +1,4 @@
-use Rattle.std.proofs.Common.{◌≡◌, ◌+◌, ◌<◌, ◌≤◌, length, get_or, take, drop, ℤ, pos, sym, ap, ◌∙◌, subst, arith, w32, SFits, rules}
+use Rattle.std.proofs.Common.{◌+◌, ◌<◌, length, get_or, take, drop, ℤ, pos, sym, ◌∙◌, subst, arith, w32, SFits, rules}
 use Rattle.std.proofs.lemmas.Int.{to_z-of_z}
 use Rattle.std.proofs.lemmas.List.{length-take-le, get_or-take, at_drop_all}
 use Rattle.clauses.specs.Walk.{Word}

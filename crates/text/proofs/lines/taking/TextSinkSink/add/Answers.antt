@@ -1,5 +1,5 @@
-use Rattle.std.proofs.Common.{◌≡◌, ℕ, ◌+◌, ◌-◌, ◌<◌, ◌≤◌, false, ltb, List, [], ◌∷◌, ◌++◌, map, length, get_or, take, drop, set, ℤ, pos, sym, refl, ap, ◌∙◌, arith, length-set, w32, SFits, to_z, of_z, rules}
-use Rattle.std.proofs.lemmas.List.{append_assoc, length-append, length_push, length-take-le, take_all, take-set-le, drop-map}
+use Rattle.std.proofs.Common.{◌≡◌, ℕ, ◌+◌, ◌-◌, ◌<◌, ◌≤◌, ltb, List, [], ◌∷◌, ◌++◌, map, length, get_or, take, drop, set, ℤ, pos, sym, refl, ap, ◌∙◌, arith, length-set, w32, SFits, to_z, of_z, rules}
+use Rattle.std.proofs.lemmas.List.{append_assoc, length-append, length_push, take_all, take-set-le, drop-map}
 use Rattle.std.proofs.lemmas.Int.{to_z-of_z}
 use Rattle.std.proofs.lemmas.Bool.{cond-false, or_parts, leb-true, leb-false}
 use Rattle.rules.specs.Lists.{any, each}
