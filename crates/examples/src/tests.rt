@@ -143,7 +143,7 @@ fn writes(rt: HostRuntime) -> Result<(), Fail> {
         prints(&rt, heap, horizon, rule, problem, text)?;
     }
     let short = write_request(heap, b"\x01\0\x02")?;
-    assert!(rt; short.as_slice() == b"refused 1\n");
+    assert!(rt; short.as_slice() == b"refused 1\n".as_slice());
     Ok(())
 }
 

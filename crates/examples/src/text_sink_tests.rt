@@ -20,7 +20,7 @@ fn writes_lines(rt: HostRuntime) {
     assert_eq!(rt; number(sink.add(&[])), 0);
     assert_eq!(rt; number(sink.add(&[-999999])), 0);
     assert_eq!(rt; sink.used(), 19);
-    assert!(rt; sink.text() == b"1 -2 0\n0\n-999999 0\n");
+    assert!(rt; sink.text() == b"1 -2 0\n0\n-999999 0\n".as_slice());
     assert_eq!(rt; sink.clause_count(), 3);
     assert_eq!(rt; sink.clause_length(1), Some(2));
     assert_eq!(rt; sink.clause_length(2), Some(0));
