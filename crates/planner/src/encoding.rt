@@ -73,7 +73,10 @@ fn formula_fits<S: Sink, R: SlotRule>(
     if 8 * literals + 2 * clauses <= left {
         return true;
     }
-    formula_cost(table, rule, horizon, sink) <= left
+    if formula_cost(table, rule, horizon, &*sink) > sink.space_left() {
+        return false;
+    }
+    true
 }
 
 // Adds the formula to a sink that has space for it.
