@@ -20,7 +20,7 @@ use Rattle.problem.specs.Verdict.{verdict}
 use Rattle.problem.proofs.Lawful.{lawful_sound}
 use Rattle.planner.specs.Encoded.{encode_checks}
 use Rattle.requests.specs.Written.{written}
-use Rattle.examples.specs.Table.{ExamplesHold, Printed, Prints, texts, refusals, Sized, Sizes, sizes, Encoded, Encodes, encodings, Solved, Solves, sheets, OnlyModel, only_sheets}
+use Rattle.examples.specs.Table.{ExamplesHold, SheetExamplesHold, GoesBothWays, Printed, Prints, texts, refusals, Sized, Sizes, sizes, Encoded, Encodes, encodings, Solved, Solves, sheets, OnlyModel, only_sheets}
 use Rattle.examples.proofs.Replies.{replies_told}
 use Rattle.examples.proofs.Only.{every, tried, meets_all, same, only}
 
@@ -66,34 +66,47 @@ unfolding encode
 formulas_encoded = all_computed Encodes encode (λ row. (0, row.answer)) answered encodings refl
 
 -- that the lines are a sheet that holds comes from their being read off a model
-module _ (row : Solved) (lawful : Lawful row.rule) (v : verdict row.bytes ≡ 0) (few : row.horizon ≤ 32) where
+module _ (row : Solved) (lawful : Lawful row.rule) (v : verdict row.bytes ≡ 0) where
   solves : length row.values ≡ vars (problem_of row.bytes) row.horizon → map (any (says (value row.values))) (formula (problem_of row.bytes) row.rule row.horizon) ≡ map (λ c. true) (formula (problem_of row.bytes) row.rule row.horizon) → model (problem_of row.bytes) row.horizon row.lines ≡ row.values → sheet_of (problem_of row.bytes) row.horizon (value row.values) ≡ row.lines → Solves row
   solves long meets m s =
       let w = value row.values in
       let is : Model (vars (problem_of row.bytes) row.horizon) (formula (problem_of row.bytes) row.rule row.horizon) row.values = record { long = long; meets = all_computed (Meets w) (any (says w)) (λ c. true) (λ c e. e) (formula (problem_of row.bytes) row.rule row.horizon) meets } in
-      let law = formula_means_sheets_lem (problem_of row.bytes) (lawful_sound row.bytes v) row.rule lawful row.horizon in
-      let d = law.decodes row.values is in
-      let sheet = subst (Sheet (problem_of row.bytes) row.horizon) s d.0 in
-      let holds = subst (Holds (problem_of row.bytes) row.rule row.horizon) s d.1 in
-      let back = undoes_assign_lem (problem_of row.bytes) row.rule row.horizon law (length row.lines) few row.lines sheet holds (omega arith) in
+      let d = (formula_means_sheets_lem (problem_of row.bytes) (lawful_sound row.bytes v) row.rule lawful row.horizon).decodes row.values is in
       record {
         granted = v;
-        is_sheet = sheet;
-        holds = holds;
+        is_sheet = subst (Sheet (problem_of row.bytes) row.horizon) s d.0;
+        holds = subst (Holds (problem_of row.bytes) row.rule row.horizon) s d.1;
         is_model = is;
         gives_values = m;
         gives_lines = s;
-        decode_grants = subst (λ (vs : List Bool). Answers (decode_tests (problem_of row.bytes) row.rule row.horizon (bytes_of vs) (length row.lines)) 0) m back.grants;
-        decode_gives = ap (λ (vs : List Bool). sheet_of (problem_of row.bytes) row.horizon (value (told (bytes_of vs)))) (sym m) ∙ back.reads;
-        assign_grants = inl (few, inl (long, inl (sheet, inl (holds, refl))));
       }
 
 sheets_solve : AllByRecursion Solves sheets
 sheets_solve = (
-  solves _ parallel_lawful_lem refl (omega arith) refl refl refl refl,
+  solves _ parallel_lawful_lem refl refl refl refl refl,
   (
-    solves _ parallel_lawful_lem refl (omega arith) refl refl refl refl,
-    (solves _ single_lawful_lem refl (omega arith) refl refl refl refl, tt),
+    solves _ parallel_lawful_lem refl refl refl refl refl,
+    (solves _ single_lawful_lem refl refl refl refl refl, tt),
+  ),
+)
+
+-- a row that is solved is decoded and assigned
+both_ways : (row : Solved) → Lawful row.rule → row.horizon ≤ 32 → Solves row → GoesBothWays row
+both_ways row lawful few r =
+    let law = formula_means_sheets_lem (problem_of row.bytes) (lawful_sound row.bytes r.granted) row.rule lawful row.horizon in
+    let back = undoes_assign_lem (problem_of row.bytes) row.rule row.horizon law (length row.lines) few row.lines r.is_sheet r.holds (omega arith) in
+    record {
+      decode_grants = subst (λ (vs : List Bool). Answers (decode_tests (problem_of row.bytes) row.rule row.horizon (bytes_of vs) (length row.lines)) 0) r.gives_values back.grants;
+      decode_gives = ap (λ (vs : List Bool). sheet_of (problem_of row.bytes) row.horizon (value (told (bytes_of vs)))) (sym r.gives_values) ∙ back.reads;
+      assign_grants = inl (few, inl (r.is_model.long, inl (r.is_sheet, inl (r.holds, refl))));
+    }
+
+rows_go_both_ways : AllByRecursion GoesBothWays sheets
+rows_go_both_ways = (
+  both_ways _ parallel_lawful_lem (omega arith) sheets_solve.0,
+  (
+    both_ways _ parallel_lawful_lem (omega arith) sheets_solve.1.0,
+    (both_ways _ single_lawful_lem (omega arith) sheets_solve.1.1.0, tt),
   ),
 )
 
@@ -107,6 +120,7 @@ examples_hold_lem = record {
   sizes_counted = sizes_counted;
   formulas_encoded = formulas_encoded;
   sheets_solve = sheets_solve;
-  models_are_only = models_are_only;
-  replies_told = replies_told sheets_solve;
 }
+
+pub sheet_examples_hold_lem : SheetExamplesHold
+sheet_examples_hold_lem = record { rows_go_both_ways = rows_go_both_ways; models_are_only = models_are_only; replies_told = replies_told sheets_solve }

@@ -179,9 +179,6 @@ pub record Solves (row : Solved) : Type 0 where
   pub is_model : Model (vars (problem_of row.bytes) row.horizon) (formula (problem_of row.bytes) row.rule row.horizon) row.values
   pub gives_values : model (problem_of row.bytes) row.horizon row.lines ≡ row.values
   pub gives_lines : sheet_of (problem_of row.bytes) row.horizon (value row.values) ≡ row.lines
-  pub decode_grants : Answers (decode_tests (problem_of row.bytes) row.rule row.horizon (bytes_of row.values) (length row.lines)) 0
-  pub decode_gives : sheet_of (problem_of row.bytes) row.horizon (value (told (bytes_of row.values))) ≡ row.lines
-  pub assign_grants : Answers (assign_tests (problem_of row.bytes) row.rule row.horizon row.lines (length row.values)) 0
 
 abbrev pub sheets : List Solved
 sheets =
@@ -192,6 +189,12 @@ sheets =
     -- one step a slot: -1 -2 3 -4 5 -6 -7 8 9 10
     ∷ solved swap single 2 (line 1 1 ∷ line 2 2 ∷ []) (false ∷ false ∷ true ∷ false ∷ true ∷ false ∷ false ∷ true ∷ true ∷ true ∷ [])
     ∷ []
+
+-- decode grants the truth values and gives the lines, and assign grants the lines
+pub record GoesBothWays (row : Solved) : Type 0 where
+  pub decode_grants : Answers (decode_tests (problem_of row.bytes) row.rule row.horizon (bytes_of row.values) (length row.lines)) 0
+  pub decode_gives : sheet_of (problem_of row.bytes) row.horizon (value (told (bytes_of row.values))) ≡ row.lines
+  pub assign_grants : Answers (assign_tests (problem_of row.bytes) row.rule row.horizon row.lines (length row.values)) 0
 
 -- no other truth values are a model
 abbrev pub OnlyModel : Solved → Type 0
@@ -230,5 +233,9 @@ pub record ExamplesHold : Type 0 where
   pub sizes_counted : AllByRecursion Sizes sizes
   pub formulas_encoded : AllByRecursion Encodes encodings
   pub sheets_solve : AllByRecursion Solves sheets
+
+-- and every row on decode, assign and what `sheet` prints
+pub record SheetExamplesHold : Type 0 where
+  pub rows_go_both_ways : AllByRecursion GoesBothWays sheets
   pub models_are_only : AllByRecursion OnlyModel only_sheets
   pub replies_told : AllByRecursion Told replies
