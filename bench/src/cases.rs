@@ -1,6 +1,7 @@
-//! Runs the plain Rust version over records of `write` and `sheet` inputs, so that
-//! the yardstick itself is checked: standard input as in crates/cases/stdin,
-//! standard output as in crates/cases/stdout.
+//! Runs the plain Rust version over records of `write` or of `sheet` inputs, by its
+//! argument, so that the yardstick itself is checked: standard input as in
+//! crates/cases/stdin or crates/sheet_cases/stdin, standard output as in the stdout
+//! beside it.
 
 #[allow(dead_code)]
 mod plain;
@@ -80,22 +81,22 @@ fn sheet(input: &[u8]) -> Result<Vec<u8>, i64> {
 }
 
 fn main() -> io::Result<()> {
+    let answer: fn(&[u8]) -> Result<Vec<u8>, i64> = match std::env::args().nth(1).as_deref() {
+        Some("write") => write,
+        Some("sheet") => sheet,
+        _ => return Err(io::Error::other("usage: cases write|sheet")),
+    };
     let mut records = Vec::new();
     io::stdin().read_to_end(&mut records)?;
     let mut out = io::BufWriter::new(io::stdout().lock());
     let mut rest = &records[..];
     let mut case = 0;
-    while let Some((&[letter, a, b, c, d], after)) = rest.split_first_chunk::<5>() {
+    while let Some((&[a, b, c, d], after)) = rest.split_first_chunk::<4>() {
         let (input, after) = after.split_at(u32::from_le_bytes([a, b, c, d]) as usize);
         rest = after;
         case += 1;
         writeln!(out, "case {case}")?;
-        let answer = match letter {
-            b'w' => write(input),
-            b's' => sheet(input),
-            _ => return Err(io::Error::other(format!("case {case}: no such program"))),
-        };
-        match answer {
+        match answer(input) {
             Ok(printed) => out.write_all(&printed)?,
             Err(refusal) => writeln!(out, "refused {refusal}")?,
         }

@@ -1,12 +1,12 @@
 #!/usr/bin/env python3
-"""Writes crates/cases/stdin and crates/cases/stdout from a fixed seed.
+"""Writes stdin and stdout of crates/cases (inputs of `write`) and of
+crates/sheet_cases (inputs of `sheet`) from a fixed seed.
 
-stdin is a run of records: a letter, `w` for `write` or `s` for `sheet`; a 4-byte
-length, low byte first; and then that many bytes, one input of that program.
-stdout has, for each record K from 1, the line `case K` and then what the program
-prints for it, by the oracle.
+stdin is a run of records: a 4-byte length, low byte first; and then that many
+bytes, one input of the program. stdout has, for each record K from 1, the line
+`case K` and then what the program prints for it, by the oracle.
 
-    python3 tests/oracle/make_cases.py            write both files
+    python3 tests/oracle/make_cases.py            write the four files
     python3 tests/oracle/make_cases.py list       say what each case is, too
 """
 
@@ -21,7 +21,8 @@ from oracle import (PARALLEL, RELAY, SINGLE, SWAP, clause_lines, formula, holds,
                     read_problem, sheet, sheet_of, states, variables, write)
 
 SEED = 41507
-FOLDER = pathlib.Path(__file__).resolve().parents[2] / "crates" / "cases"
+CRATES = pathlib.Path(__file__).resolve().parents[2] / "crates"
+PROGRAMS = ((b"w", "write", "cases"), (b"s", "sheet", "sheet_cases"))
 
 cases = []          # (letter, what it shows, input, what the program prints)
 
@@ -882,27 +883,25 @@ def main(arguments):
 
     sheet_cases(random.Random(SEED + 1))
 
-    stdin = b"".join(letter + len(data).to_bytes(4, "little") + data
-                     for letter, _, data, _ in cases)
-    stdout = b"".join(b"case %d\n" % k + printed
-                      for k, (_, _, _, printed) in enumerate(cases, 1))
-    FOLDER.mkdir(parents=True, exist_ok=True)
-    (FOLDER / "stdin").write_bytes(stdin)
-    (FOLDER / "stdout").write_bytes(stdout)
+    print("seed %d" % SEED)
+    for letter, name, crate in PROGRAMS:
+        own = [case for case in cases if case[0] == letter]
+        stdin = b"".join(len(data).to_bytes(4, "little") + data for _, _, data, _ in own)
+        stdout = b"".join(b"case %d\n" % k + printed
+                          for k, (_, _, _, printed) in enumerate(own, 1))
+        (CRATES / crate / "stdin").write_bytes(stdin)
+        (CRATES / crate / "stdout").write_bytes(stdout)
 
-    tally = {b"w": collections.Counter(), b"s": collections.Counter()}
-    for k, (letter, what, data, printed) in enumerate(cases, 1):
-        answer = outcome(letter, printed)
-        tally[letter][answer] += 1
-        if arguments == ["list"]:
-            print("%4d %s  %-12s  %5d bytes in, %5d out  %s"
-                  % (k, letter.decode(), answer, len(data), len(printed), what))
-    print("seed %d: %d cases, stdin %d bytes, stdout %d bytes"
-          % (SEED, len(cases), len(stdin), len(stdout)))
-    for letter, name in ((b"w", "write"), (b"s", "sheet")):
-        counts = tally[letter]
-        print("%s, %d: %s" % (name, sum(counts.values()),
-                              ", ".join("%s: %d" % item for item in sorted(counts.items()))))
+        tally = collections.Counter()
+        for k, (_, what, data, printed) in enumerate(own, 1):
+            answer = outcome(letter, printed)
+            tally[answer] += 1
+            if arguments == ["list"]:
+                print("%4d %s  %-12s  %5d bytes in, %5d out  %s"
+                      % (k, letter.decode(), answer, len(data), len(printed), what))
+        print("%s, %d cases, stdin %d bytes, stdout %d bytes: %s"
+              % (name, len(own), len(stdin), len(stdout),
+                 ", ".join("%s: %d" % item for item in sorted(tally.items()))))
 
 
 if __name__ == "__main__":
