@@ -1,5 +1,5 @@
 -- Sums of weights over the lists that the formula is made of, what a tally comes to, and how much a slot can weigh.
-use Rattle.std.proofs.Common.{◌≡◌, ℕ, zero, suc, ◌+◌, ◌-◌, ◌*◌, ◌^◌, ◌<◌, ◌≤◌, Bool, true, false, cond, List, [], ◌∷◌, ◌++◌, map, length, Ok, Err, filter, Result, sym, refl, ap, ◌∙◌, inl, inr, suc-mul, mul-le-mul_left, mul-suc, arith}
+use Rattle.std.proofs.Common.{◌≡◌, ℕ, zero, suc, ◌+◌, ◌-◌, ◌*◌, ◌^◌, ◌<◌, ◌≤◌, Bool, true, false, cond, List, [], ◌∷◌, ◌++◌, map, length, ℤ, Ok, Err, filter, Result, sym, refl, ap, ◌∙◌, subst, inl, inr, suc-mul, mul-le-mul_left, mul-suc, arith}
 use Rattle.std.specs.List.{range_with_len}
 use Rattle.std.specs.declared.convert.Infallible.{Infallible}
 use Rattle.std.proofs.lemmas.List.FromFn.{length-range_with_len}
@@ -10,7 +10,10 @@ use Rattle.rules.specs.Problems.{Problem, step, facts_of, steps_of}
 use Rattle.rules.specs.Clauses.{Clause, aye, nay, total, literals}
 use Rattle.rules.specs.Formula.{step_var, fact_var, start_cell, start_clauses, needs_cell, needs_clauses, sets_cell, sets_clauses, clears_cell, clears_clauses, comes, goes, frame_cell, frame_clauses, parted_cell, parted_clauses, slot_clauses, goal_cell, goal_clauses, formula}
 use Rattle.formula.specs.declared.tally.Tally.{Tally}
-use Rattle.formula.specs.Visits.{Visits, Stops}
+use Rattle.std.specs.Fn.{Shared}
+use denote.Ref.{Bor, MutBor}
+use Rattle.formula.specs.Visits.{Shown, Visits, Stops}
+use Rattle.formula.proofs.Visiting.{visits_map}
 use Rattle.formula.specs.Sizes.{Counted}
 
 -- what never stops does not stop
@@ -27,6 +30,13 @@ tallied (c ∷ cs) a b r (inl h) k l =
     let i = tallied cs h.0 b r h.2 (omega arith) (omega arith) in
     (omega (arith, i.0), omega (arith, i.1))
 tallied (c ∷ cs) a b r (inr h) k l = absurd (no_stop r h.0)
+
+-- the same, where each call of a closure counts the clause that it is shown
+pub tallied_by : {F : Type 0} (calls : Shared F (MutBor Tally × (Bor (List ℤ) × Unit {0})) (Result Unit Infallible × (MutBor Tally × Unit {0}))) (f : F) → ((a b : MutBor Tally) (c : Bor (List ℤ)) (r : Result Unit Infallible) → calls.post f (a, (c, tt)) (r, (b, tt)) → Counted a.now c.now b.now) → (cs : List Clause) (a b : Tally) (r : Result Unit Infallible) → Visits (Shown calls f) a cs r b → a.clauses + length cs < 2 ^ 64 → a.literals + literals cs < 2 ^ 64 → (b.clauses ≡ a.clauses + length cs) × (b.literals ≡ a.literals + literals cs)
+tallied_by calls f counts cs a b r v =
+    let one : (x : Tally) (c : Clause) (s : Result Unit Infallible) (y : Tally) → Shown calls f x c s y → Counted x c y = λ x c s y h.
+    subst (λ z. Counted z c y) h.lends (subst (λ z. Counted h.lent.now z y) h.shows (subst (λ z. Counted h.lent.now h.clause.now z) h.leaves (counts h.lent h.left h.clause s h.answers))) in
+    tallied cs a b r (visits_map {one = Shown calls f} {two = λ x c s y. Counted x c y} one cs a b r v)
 
 pub length_total : (cs : List Clause) → length cs ≡ total (λ _. 1) cs
 length_total [] = refl

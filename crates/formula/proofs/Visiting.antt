@@ -40,3 +40,9 @@ module _ {S E : Type 0} (one : S → Clause → Result Unit E → S → Type 0) 
 
     pub along_end : (a : S) (all : List Clause) (b : S) (i n : ℕ) → Along a all b i n → n ≤ i → Visits one a all (Ok tt) b
     along_end a all b i n o l = o (Ok tt) b (subst (λ (js : List ℕ). Visits one b (each g js) (Ok tt) b) (sym (counting_over i n l)) (refl, refl))
+
+-- who does no more at each clause than another does no more over them all
+pub visits_map : {S E : Type 0} {one two : S → Clause → Result Unit E → S → Type 0} → ((a : S) (c : Clause) (r : Result Unit E) (b : S) → one a c r b → two a c r b) → (cs : List Clause) (a b : S) (r : Result Unit E) → Visits one a cs r b → Visits two a cs r b
+visits_map h [] a b r v = v
+visits_map h (c ∷ cs) a b r (inl v) = inl (v.0, h a c (Ok tt) v.0 v.1, visits_map h cs v.0 b r v.2)
+visits_map h (c ∷ cs) a b r (inr v) = inr (v.0, h a c r b v.1)

@@ -1,6 +1,18 @@
 -- What a visitor comes to over a list of clauses, from what it does at one.
-use Rattle.std.specs.Prelude.{◌≡◌, ◌⊎◌, List, [], ◌∷◌, Ok, Err, Result}
+use Rattle.std.specs.Prelude.{◌≡◌, ◌⊎◌, List, [], ◌∷◌, ℤ, Ok, Err, Result}
+use Rattle.std.specs.Fn.{Shared}
+use denote.Ref.{Bor, MutBor}
 use Rattle.rules.specs.Clauses.{Clause}
+
+-- the closure f, called at the state a and the clause c, may answer r and leave the state b
+pub record Shown {F S E : Type 0} (calls : Shared F (MutBor S × (Bor (List ℤ) × Unit {0})) (Result Unit E × (MutBor S × Unit {0}))) (f : F) (a : S) (c : Clause) (r : Result Unit E) (b : S) : Type 0 where
+  pub lent : MutBor S
+  pub clause : Bor (List ℤ)
+  pub left : MutBor S
+  pub lends : lent.now ≡ a
+  pub shows : clause.now ≡ c
+  pub answers : calls.post f (lent, (clause, tt)) (r, (left, tt))
+  pub leaves : left.now ≡ b
 
 abbrev pub Stops : {E : Type 0} → Result Unit E → Type 0
 Stops (Ok _) = ⊥

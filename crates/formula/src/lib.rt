@@ -3,10 +3,10 @@
 
 mod counting;
 mod enumeration;
+mod showing;
+mod slots;
 mod tally;
-mod variables;
-mod visitor;
+mod whole;
 
-pub use counting::{sizes, sizes_of};
-pub use enumeration::each_clause;
-pub use visitor::ClauseVisitor;
+pub use counting::sizes;
+pub use whole::Formula;

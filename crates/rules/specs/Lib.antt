@@ -9,3 +9,4 @@ pub mod Refusals
 pub mod Checks
 pub mod Laws
 pub mod Propagation
+pub mod Shown

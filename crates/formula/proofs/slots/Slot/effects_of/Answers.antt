@@ -1,0 +1,14 @@
+use Rattle.std.proofs.lemmas.Result.{err_from_is_err_and}
+use Rattle.problem.specs.Tables.{means}
+use Rattle.formula.specs.Effects.{effect_cell}
+use Rattle.formula.specs.Visits.{Shown}
+use Rattle.formula.proofs.Visiting.{along_more, along_stop}
+use Rattle.formula.proofs.slots.Slot.effects_of.Goals as goal
+
+pub loop-f-preserved : goal.loop-f-preserved
+loop-f-preserved g c = along_more (Shown g.F.Fn c.args.visit.now) (effect_cell (means c.args.self.now.table.now) c.args.part c.args.self.now.before c.args.a) _ _ _ _ _ _ c.loop-f.invariant c.loop-f-test.true c.in_ok-effect_clause.ensures.visits_effect
+
+pub returns-in_err-effect_clause : goal.returns-in_err-effect_clause
+returns-in_err-effect_clause g c =
+    let p = err_from_is_err_and c.from_residual.result c.from_residual.ensures.1 in
+    record { visits_row = rw (p.1, p.2) (along_stop (Shown g.F.Fn c.args.visit.now) (effect_cell (means c.args.self.now.table.now) c.args.part c.args.self.now.before c.args.a) _ _ _ _ _ _ _ c.loop-f.invariant c.loop-f-test.true c.in_err-effect_clause.ensures.visits_effect) }

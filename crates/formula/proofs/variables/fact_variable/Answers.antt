@@ -1,6 +1,0 @@
-use Rattle.std.proofs.Common.{refl, arith}
-use Rattle.formula.proofs.Widths.{offset}
-use Rattle.formula.proofs.variables.fact_variable.Goals as goal
-
-pub returns : goal.returns
-returns c = record { value = refl; small = omega (arith, offset c.args.table.now c.args.t c.requires.0) }
