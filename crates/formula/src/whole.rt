@@ -40,13 +40,6 @@ impl<'a, R: SlotRule> Formula<'a, R> {
         &self.table
     }
 
-    // T, how many slots there are.
-    pub fn horizon(&self) -> usize
-        ensures answers_horizon { result ≡ self.now.horizon }
-    {
-        self.horizon
-    }
-
     // V, how many variables there are.
     pub fn variables(&self) -> usize
         ensures counts_variables { result ≡ vars (means self.now.table) self.now.horizon }

@@ -7,7 +7,10 @@ use Rattle.std.proofs.lemmas.Bool.{cond-false, le-ltb}
 use Rattle.rules.specs.declared.refusal.Refusal.{Refusal}
 use Rattle.rules.specs.Clauses.{Clause, total, bad_clause}
 use Rattle.clauses.specs.Judged.{judged, held_after, free_after}
-use Rattle.formula.specs.Visits.{Visits, Stops}
+use Rattle.std.specs.Fn.{Shared}
+use denote.Ref.{Bor, MutBor}
+use Rattle.formula.specs.Visits.{Shown, Visits, Stops}
+use Rattle.formula.proofs.Visiting.{visits_map}
 use Rattle.formula.proofs.Totals.{total_append}
 use Rattle.planner.specs.Steps.{Added, Kept}
 
@@ -55,3 +58,11 @@ module _ {S : Type 0} (held : S → List Clause) (widest capacity : S → ℕ) (
   added_all (c ∷ cs) a b r (inr h) good fits =
       let o = added_one a c r b h.1 good.0 (omega arith) in
       absurd (elim (subst Stops o.grants h.0) [ ])
+
+  -- the same, where each call of a closure does what add promises
+  pub added_by : {F : Type 0} (calls : Shared F (MutBor S × (Bor (List ℤ) × Unit {0})) (Result Unit Refusal × (MutBor S × Unit {0}))) (f : F) → ((a b : MutBor S) (c : Bor (List ℤ)) (r : Result Unit Refusal) → calls.post f (a, (c, tt)) (r, (b, tt)) → Added held widest capacity cost free lent a.now c.now r b.now) → (cs : List Clause) (a b : S) (r : Result Unit Refusal) → Visits (Shown calls f) a cs r b → AllByRecursion (λ c. bad_clause (widest a) c ≡ false) cs → total cost (held a) + total cost cs ≤ capacity a → AllAdded a cs r b
+  added_by calls f adds cs a b r v =
+      let A = Added held widest capacity cost free lent in
+      let one : (x : S) (c : Clause) (s : Result Unit Refusal) (y : S) → Shown calls f x c s y → A x c s y = λ x c s y h.
+      subst (λ z. A z c s y) h.lends (subst (λ z. A h.lent.now z s y) h.shows (subst (λ z. A h.lent.now h.clause.now s z) h.leaves (adds h.lent h.left h.clause s h.answers))) in
+      added_all cs a b r (visits_map {one = Shown calls f} {two = A} one cs a b r v)

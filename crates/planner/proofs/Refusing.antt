@@ -1,5 +1,5 @@
 -- Which check of encode fails first.
-use Rattle.std.proofs.Common.{◌≡◌, ℕ, ◌<◌, ◌≤◌, eqb, leb, List, length, sym, ◌∙◌}
+use Rattle.std.proofs.Common.{◌≡◌, ℕ, ◌<◌, ◌≤◌, eqb, leb, List, length, sym, ap, ◌∙◌}
 use Rattle.std.proofs.lemmas.Bool.{cond-true, cond-false, le-leb, lt-leb, eq-eqb, ne_eqb}
 use Rattle.rules.specs.Checks.{first_refusal}
 use Rattle.rules.specs.Steps.{Rule, Lawful}
@@ -31,3 +31,10 @@ module _ (p : Problem) (rule : Rule) (t : ℕ) (held : List Clause) (widest left
 
         pub grant : total cost (formula p rule t) ≤ left → 0 ≡ first_refusal (encode_checks p rule t held widest left cost)
         grant l = sym (cond-true (leb t 32) _ 7 (le-leb t 32 h) ∙ cond-true (eqb (length held) 0) _ 10 (eq-eqb (length held) 0 e) ∙ cond-true (leb (vars p t) widest) _ 11 (le-leb (vars p t) widest v) ∙ cond-true (leb (total cost (formula p rule t)) left) 0 9 (le-leb (total cost (formula p rule t)) left l))
+
+-- a formula and its variables by equal parts
+pub same_vars : {p q : Problem} {t u : ℕ} → p ≡ q → t ≡ u → vars p t ≡ vars q u
+same_vars {p} {q} {t} {u} e h = ap (λ (x : Problem). vars x t) e ∙ ap (vars q) h
+
+pub same_formula : {R : Type 0} (parts : R → Rule) {p q : Problem} {r s : R} {t u : ℕ} → p ≡ q → r ≡ s → t ≡ u → formula p (parts r) t ≡ formula q (parts s) u
+same_formula parts {p} {q} {r} {s} {t} {u} e k h = ap (λ (x : Problem). formula x (parts r) t) e ∙ ap (λ y. formula q (parts y) t) k ∙ ap (formula q (parts s)) h

@@ -5,7 +5,7 @@ use Rattle.rules.specs.Lists.{any}
 use Rattle.rules.specs.Clauses.{says, value}
 use Rattle.checking.specs.Told.{told}
 use Rattle.checking.proofs.Telling.{any_here, any_later}
-use Rattle.checking.proofs.meeting.meets_clause.Goals as goal
+use Rattle.checking.proofs.meeting.meet_clause.Goals as goal
 
 pub returns-then-says_true : goal.returns-then-says_true
 returns-then-says_true c =
