@@ -7,7 +7,7 @@ use Rattle.rules.specs.Lists.{any, has, shares}
 use Rattle.steps.specs.declared.fact_set.FactSet.{FactSet}
 use Rattle.steps.specs.Sets.{bit, facts_in}
 use Rattle.steps.proofs.Kept.{has_bit, kept_same, kept_shorter}
-use Rattle.problem.specs.Bytes.{facts, steps, pairs, code, fact}
+use Rattle.problem.specs.Bytes.{facts, steps, pairs, code, fact, Sized}
 use Rattle.problem.specs.Listed.{among, has_pair, listed}
 use Rattle.problem.specs.Verdict.{scan, clashes}
 use Rattle.problem.specs.Collected.{empty_set, Collects}
@@ -15,8 +15,12 @@ use Rattle.problem.proofs.Lawful.{scan_known}
 use Rattle.problem.proofs.Scans.{none_among}
 use Rattle.rules.proofs.Counting.{counting_next, counting_over}
 
-pub code_in : (s : List ℕ) (n k : ℕ) → scan s n ≡ 0 → k < n → steps s ≤ 128 → code s k < 516
-code_in s n k h l few = let w = scan_known s n k h l in omega (arith, w.0)
+-- a pair that passed has a code and a fact that a table has room for
+pub known_pair : (s : List ℕ) (f a p i : ℕ) → Sized s f a p → scan s p ≡ 0 → i < p → (code s i < 516) × (1 ≤ fact s i) × (fact s i ≤ 64)
+known_pair s f a p i z h l =
+    let w = scan_known s p i h l in
+    let few : facts s ≤ 64 = omega (arith, z.is_facts, z.few_facts) in
+    (omega (arith, w.0, z.is_steps, z.few_steps), w.1, omega (arith, w.2))
 
 pub collect_none : (s : List ℕ) (x : FactSet) → facts_in x ≡ [] → Collects s (replicate 516 x) 0
 collect_none s x e = record {
