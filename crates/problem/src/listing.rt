@@ -1,5 +1,5 @@
 // From bytes to a problem, or to the first rule that they break.
-ghost use Rattle.std.specs.Prelude.{◌≡◌, ◌+◌, ◌<◌, length, IfOk, if◌then◌else◌};
+ghost use Rattle.std.specs.Prelude.{◌≡◌, ◌+◌, ◌<◌, length, IfOk};
 ghost use Rattle.std.specs.List.{range_with_len};
 ghost use Rattle.rules.specs.Lists.{any};
 ghost use Rattle.rules.specs.Refusals.{answer};
@@ -61,7 +61,9 @@ impl<'a> Listing<'a> {
             pairs,
         };
         listing.check_pairs()?;
-        listing.check_clashes()?;
+        if listing.has_clash() {
+            return Err(Refusal::SetsAndClears);
+        }
         Ok(listing)
     }
 
@@ -119,17 +121,12 @@ impl<'a> Listing<'a> {
         sets
     }
 
-    // Whether no step sets and clears one fact.
-    fn check_clashes(&self) -> Result<(), Refusal>
+    // Whether some step sets and clears one fact.
+    fn has_clash(&self) -> bool
         requires scanned { scan self.now.bytes.now self.now.pairs ≡ 0 }
-        ensures first_broken { answer result ≡ (if any (clashes self.now.bytes.now) (range_with_len 1 self.now.steps) then 6 else 0) }
+        ensures answers_clash { result ≡ any (clashes self.now.bytes.now) (range_with_len 1 self.now.steps) }
     {
         let sets = self.collect();
-        for a in 1..self.steps + 1 {
-            if sets[4 * a + 1].meets(sets[4 * a + 2]) {
-                return Err(Refusal::SetsAndClears);
-            }
-        }
-        Ok(())
+        (1..self.steps + 1).any(|a| sets[4 * a + 1].meets(sets[4 * a + 2]))
     }
 }

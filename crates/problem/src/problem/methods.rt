@@ -21,7 +21,7 @@ pub fn read_problem<'a>(problem: &mut Problem<'a>, bytes: &'a [u8]) -> Result<()
 {
     let listing = Listing::read(bytes)?;
     *problem = Problem {
-        bytes: listing.bytes,
+        bytes,
         facts: listing.facts,
         steps: listing.steps,
         pairs: listing.pairs,

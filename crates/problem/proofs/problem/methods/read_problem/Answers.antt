@@ -21,5 +21,5 @@ returns c =
     record {
       first_broken_rule = granted;
       grants_exactly_renderings = granted_renders s (λ i. omega (arith, (c.type_inv.bytes i).fits)) (sym granted);
-      filled_or_kept = c.in_ok-listing.ensures.reads_these_bytes;
+      filled_or_kept = refl;
     }
