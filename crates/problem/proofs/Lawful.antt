@@ -2,6 +2,7 @@
 use Rattle.std.proofs.Common.{◌≡◌, ℕ, zero, suc, ◌+◌, ◌-◌, ◌*◌, ◌%◌, ◌<◌, ◌≤◌, Bool, true, false, cond, not, eqb, ltb, ◌⊎◌, List, length, sym, refl, ap, ◌∙◌, subst, inl, inr, ⊎_elim, arith}
 use Rattle.std.specs.List.{range_with_len}
 use Rattle.std.proofs.lemmas.Bool.{cond-true, cond-false, eq-eqb, ne_eqb, cases_eq, cases_lt, and_parts, or_cases, leb-true, ltb-true, eqb-true, eqb-false, not-true, not-false, not_from_false, not_from_true, both_ways}
+use Rattle.std.proofs.lemmas.Bool.Decides.{nat_tests}
 use Rattle.rules.specs.Lists.{In, any, has}
 use Rattle.rules.specs.Problems.{Sound}
 use Rattle.rules.proofs.Tests.{in_any, in_has}
@@ -11,14 +12,6 @@ use Rattle.problem.specs.Listed.{has_pair, listed, problem_of}
 use Rattle.problem.specs.Verdict.{headed, known, below, rises, pair_verdict, scan, clashes, verdict}
 use Rattle.problem.proofs.Scans.{none_among, NotAt}
 
--- a verdict's way: a refusal that is not 0 was not given
-past : (b : Bool) (x y : ℕ) → cond b x y ≡ 0 → (x ≡ 0 → ⊥) → (b ≡ false) × (y ≡ 0)
-past true x y h ne = absurd (ne h)
-past false x y h ne = (refl, h)
-
-whole : (x y : ℕ) → cond (not (eqb x 0)) x y ≡ 0 → (x ≡ 0) × (y ≡ 0)
-whole x y h = ⊎_elim (λ e. (e, sym (cond-false _ x y (not_from_true _ (eq-eqb x 0 e))) ∙ h)) (λ ne. absurd (ne (sym (cond-true _ x y (not_from_false _ (ne_eqb x 0 ne))) ∙ h))) (cases_eq x 0)
-
 -- each test of a verdict of 0
 pub record Passed (s : List ℕ) : Type 0 where
   pub head : headed s ≡ true
@@ -27,26 +20,17 @@ pub record Passed (s : List ℕ) : Type 0 where
   pub no_clash : any (clashes s) (range_with_len 1 (steps s)) ≡ false
 
 pub passed : (s : List ℕ) → verdict s ≡ 0 → Passed s
-passed s h =
-    let p = past (ltb (length s) 6) 1 _ h (λ e. omega arith) in
-    let q = past (not (headed s)) 2 _ p.1 (λ e. omega arith) in
-    let r = past (not (eqb (length s) (6 + 4 * pairs s))) 3 _ q.1 (λ e. omega arith) in
-    let w = whole (scan s (pairs s)) _ r.1 in
-    let x = past (any (clashes s) (range_with_len 1 (steps s))) 6 0 w.1 (λ e. omega arith) in
-    record {
-      head = not-false _ q.0;
-      long = eqb-true _ _ (not-false _ r.0);
-      scanned = w.0;
-      no_clash = x.0;
-    }
+passed s h = record {
+  head = grind (arith, nat_tests);
+  long = grind (arith, nat_tests);
+  scanned = grind (arith, nat_tests);
+  no_clash = grind (arith, nat_tests);
+}
 
 pub lawful_head : (s : List ℕ) → verdict s ≡ 0 → (1 ≤ facts s) × (facts s ≤ 64) × (steps s ≤ 128) × (pairs s ≤ 4096) × (length s ≡ 6 + 4 * pairs s)
 lawful_head s h =
     let t = passed s h in
-    let p = and_parts _ _ t.head in
-    let q = and_parts _ _ p.0 in
-    let r = and_parts _ _ p.1 in
-    (leb-true _ _ q.0, leb-true _ _ q.1, leb-true _ _ r.0, leb-true _ _ r.1, t.long)
+    (grind (arith, nat_tests), grind (arith, nat_tests), grind (arith, nat_tests), grind (arith, nat_tests), t.long)
 
 pub lawful_scan : (s : List ℕ) → verdict s ≡ 0 → scan s (pairs s) ≡ 0
 lawful_scan s h = (passed s h).scanned
@@ -61,17 +45,12 @@ scan_each s (suc n) k h lt =
     (cases_eq (scan s n) 0)
 
 ways : (a b : Bool) → ◌≡◌ {A = ℕ} (cond a (cond b 0 5) 4) 0 → (a ≡ true) × (b ≡ true)
-ways true true h = (refl, refl)
-ways true false h = absurd (omega arith)
-ways false b h = absurd (omega arith)
+ways a b h = (grind arith, grind arith)
 
 pub scan_known : (s : List ℕ) (n k : ℕ) → scan s n ≡ 0 → k < n → (code s k ≤ 4 * steps s + 2) × (1 ≤ fact s k) × (fact s k ≤ facts s) × (code s k ≡ 2 → ⊥) × (code s k % 4 ≡ 3 → ⊥)
 scan_known s n k h lt =
-    let p = and_parts _ _ (ways (known s k) (rises s k) (scan_each s n k h lt)).0 in
-    let q = and_parts _ _ p.1 in
-    let r = and_parts _ _ q.1 in
-    let t = and_parts _ _ r.1 in
-    (leb-true _ _ q.0, leb-true _ _ t.0, leb-true _ _ t.1, eqb-false _ _ (not-true _ p.0), eqb-false _ _ (not-true _ r.0))
+    let passes = scan_each s n k h lt in
+    (grind (arith, nat_tests), grind (arith, nat_tests), grind (arith, nat_tests), grind (arith, nat_tests), grind (arith, nat_tests))
 
 -- one pair is below another
 abbrev pub Lt : ℕ → ℕ → ℕ → ℕ → Type 0
@@ -88,7 +67,7 @@ lt_apart a b c d (inl p) e g = omega arith
 lt_apart a b c d (inr p) e g = omega arith
 
 pub lt_below : (c f d g : ℕ) → below c f d g ≡ true → Lt c f d g
-lt_below c f d g b = ⊎_elim (λ l. inl (ltb-true _ _ l)) (λ e. let q = and_parts _ _ e in inr (eqb-true _ _ q.0, ltb-true _ _ q.1)) (or_cases _ _ b)
+lt_below c f d g b = grind (arith, nat_tests)
 
 next : (s : List ℕ) (n k : ℕ) → scan s n ≡ 0 → suc k < n → Lt (code s k) (fact s k) (code s (suc k)) (fact s (suc k))
 next s n k h lt =
