@@ -2,6 +2,7 @@
 use Rattle.std.proofs.Common.{◌≡◌, ℕ, zero, suc, ◌+◌, ◌-◌, ◌*◌, ◌<◌, ◌≤◌, Bool, true, false, ◌&&◌, ◌||◌, eqb, leb, List, [], get_or, set, replicate, sym, refl, ap, ◌∙◌, ⊎_elim, add-one, arith}
 use Rattle.std.proofs.lemmas.List.{get_or-replicate, length-replicate, length-set, get_or-set_same, get_or-set_other}
 use Rattle.std.proofs.lemmas.Bool.{cases_eq, or_left, eq-eqb, ne_eqb, le-leb, and_from, and_left}
+use Rattle.std.proofs.lemmas.Bool.Decides.{nat_tests}
 use Rattle.std.specs.List.{range_with_len, list_any}
 use Rattle.rules.specs.Lists.{any, has, shares}
 use Rattle.steps.specs.declared.fact_set.FactSet.{FactSet}
@@ -27,27 +28,24 @@ collect_none s x e = record {
   lists = λ c f l. ap (λ (y : FactSet). has f (facts_in y)) (get_or-replicate 516 c x empty_set l) ∙ ap (has f) e;
 }
 
-test_swap : (a b : ℕ) → eqb a b ≡ eqb b a
-test_swap a b = ⊎_elim (λ (e : a ≡ b). eq-eqb a b e ∙ sym (eq-eqb b a (sym e))) (λ (ne : a ≡ b → ⊥). ne_eqb a b ne ∙ sym (ne_eqb b a (λ e. ne (sym e)))) (cases_eq a b)
-
-and_swap : (t u v : Bool) → t ≡ true → v ≡ true → (u && v) ≡ (t && u)
-and_swap t true v p q = q ∙ sym (ap (λ x. x && true) p)
-and_swap t false v p q = sym (ap (λ x. x && false) p)
-
 module _ (s : List ℕ) (sets : List FactSet) (i c f : ℕ) (x : FactSet) (h : Collects s sets i) (p : c ≡ code s i) (q : f ≡ fact s i) (l : c < 516) (lo : 1 ≤ f) (hi : f ≤ 64) (adds : (g : ℕ) → has g (facts_in x) ≡ ((eqb g f && (leb 1 f && leb f 64)) || has g (facts_in (get_or sets c empty_set)))) where
   here : (g : ℕ) → has g (facts_in x) ≡ ((eqb (code s i) c && eqb (fact s i) g) || among s c g i)
   here g =
-      adds g
-      ∙ ap (λ (t : Bool). t || has g (facts_in (get_or sets c empty_set))) (and_swap (eqb (code s i) c) (eqb g f) (leb 1 f && leb f 64) (eq-eqb (code s i) c (sym p)) (and_from _ _ (le-leb 1 f lo) (le-leb f 64 hi)) ∙ ap (λ (t : Bool). eqb (code s i) c && t) (test_swap g f ∙ ap (λ n. eqb n g) q))
-      ∙ ap (λ (t : Bool). (eqb (code s i) c && eqb (fact s i) g) || t) (h.lists c g l)
+      let added = adds g in
+      let before = h.lists c g l in
+      grind (arith, nat_tests)
 
   pub collect_more : Collects s (set sets c x) (i + 1)
   collect_more = record {
     long = length-set sets c x ∙ h.long;
     lists = λ e g k. rw add-one
         (⊎_elim
-        (λ (z : e ≡ c). ap (λ n. has g (facts_in (get_or (set sets c x) n empty_set))) z ∙ ap (λ (y : FactSet). has g (facts_in y)) (get_or-set_same sets c x empty_set (omega (arith, h.long))) ∙ here g ∙ ap (λ n. (eqb (code s i) n && eqb (fact s i) g) || among s n g i) (sym z))
-        (λ (ne : e ≡ c → ⊥). ap (λ (y : FactSet). has g (facts_in y)) (get_or-set_other sets c e x empty_set ne) ∙ h.lists e g k ∙ ap (λ (t : Bool). t || among s e g i) (sym (and_left (eqb (code s i) e) (eqb (fact s i) g) (ne_eqb (code s i) e (λ z. ne (sym z ∙ sym p))))))
+        (λ (z : e ≡ c).
+        let new : get_or (set sets c x) e empty_set ≡ x = ap (λ n. get_or (set sets c x) n empty_set) z ∙ get_or-set_same sets c x empty_set (omega (arith, h.long)) in
+        ap (λ (y : FactSet). has g (facts_in y)) new ∙ here g ∙ ap (λ n. (eqb (code s i) n && eqb (fact s i) g) || among s n g i) (sym z))
+        (λ (ne : e ≡ c → ⊥).
+        let before = h.lists e g k in
+        rw (get_or-set_other sets c e x empty_set ne) (grind (arith, nat_tests)))
         (cases_eq e c));
   }
 
