@@ -1,22 +1,26 @@
 -- The sets by code, one pair more at a time, and what the whole table lists.
-use Rattle.std.proofs.Common.{◌≡◌, ℕ, ◌+◌, ◌-◌, ◌*◌, ◌<◌, ◌≤◌, Bool, true, false, ◌&&◌, ◌||◌, eqb, leb, List, [], get_or, set, replicate, sym, ap, ◌∙◌, ⊎_elim, add-one, arith}
-use Rattle.std.proofs.lemmas.List.{get_or-replicate, length-replicate, length-set, get_or-set_same, get_or-set_other, get_or_default}
+use Rattle.std.proofs.Common.{◌≡◌, ℕ, zero, suc, ◌+◌, ◌-◌, ◌*◌, ◌<◌, ◌≤◌, Bool, true, false, ◌&&◌, ◌||◌, eqb, leb, List, [], get_or, set, replicate, sym, refl, ap, ◌∙◌, ⊎_elim, add-one, arith}
+use Rattle.std.proofs.lemmas.List.{get_or-replicate, length-replicate, length-set, get_or-set_same, get_or-set_other}
 use Rattle.std.proofs.lemmas.Bool.{cases_eq, or_left, eq-eqb, ne_eqb, le-leb, and_from, and_left}
-use Rattle.std.specs.List.{range_with_len}
+use Rattle.std.proofs.lemmas.Bool.Decides.{nat_tests}
+use Rattle.std.specs.List.{range_with_len, list_any}
 use Rattle.rules.specs.Lists.{any, has, shares}
 use Rattle.steps.specs.declared.fact_set.FactSet.{FactSet}
 use Rattle.steps.specs.Sets.{bit, facts_in}
 use Rattle.steps.proofs.Kept.{has_bit, kept_same, kept_shorter}
-use Rattle.problem.specs.Bytes.{facts, steps, pairs, code, fact}
+use Rattle.problem.specs.Bytes.{facts, steps, pairs, code, fact, Sized}
 use Rattle.problem.specs.Listed.{among, has_pair, listed}
 use Rattle.problem.specs.Verdict.{scan, clashes}
 use Rattle.problem.specs.Collected.{empty_set, Collects}
 use Rattle.problem.proofs.Lawful.{scan_known}
 use Rattle.problem.proofs.Scans.{none_among}
-use Rattle.rules.proofs.Counting.{counting_next, counting_over}
 
-pub code_in : (s : List ℕ) (n k : ℕ) → scan s n ≡ 0 → k < n → steps s ≤ 128 → code s k < 516
-code_in s n k h l few = let w = scan_known s n k h l in omega (arith, w.0)
+-- a pair that passed has a code and a fact that a table has room for
+pub known_pair : (s : List ℕ) (f a p i : ℕ) → Sized s f a p → scan s p ≡ 0 → i < p → (code s i < 516) × (1 ≤ fact s i) × (fact s i ≤ 64)
+known_pair s f a p i z h l =
+    let w = scan_known s p i h l in
+    let few : facts s ≤ 64 = omega (arith, z.is_facts, z.few_facts) in
+    (omega (arith, w.0, z.is_steps, z.few_steps), w.1, omega (arith, w.2))
 
 pub collect_none : (s : List ℕ) (x : FactSet) → facts_in x ≡ [] → Collects s (replicate 516 x) 0
 collect_none s x e = record {
@@ -24,27 +28,24 @@ collect_none s x e = record {
   lists = λ c f l. ap (λ (y : FactSet). has f (facts_in y)) (get_or-replicate 516 c x empty_set l) ∙ ap (has f) e;
 }
 
-test_swap : (a b : ℕ) → eqb a b ≡ eqb b a
-test_swap a b = ⊎_elim (λ (e : a ≡ b). eq-eqb a b e ∙ sym (eq-eqb b a (sym e))) (λ (ne : a ≡ b → ⊥). ne_eqb a b ne ∙ sym (ne_eqb b a (λ e. ne (sym e)))) (cases_eq a b)
-
-and_swap : (t u v : Bool) → t ≡ true → v ≡ true → (u && v) ≡ (t && u)
-and_swap t true v p q = q ∙ sym (ap (λ x. x && true) p)
-and_swap t false v p q = sym (ap (λ x. x && false) p)
-
-module _ (s : List ℕ) (sets : List FactSet) (i c f : ℕ) (x d : FactSet) (h : Collects s sets i) (p : c ≡ code s i) (q : f ≡ fact s i) (l : c < 516) (lo : 1 ≤ f) (hi : f ≤ 64) (adds : (g : ℕ) → has g (facts_in x) ≡ ((eqb g f && (leb 1 f && leb f 64)) || has g (facts_in (get_or sets c d)))) where
+module _ (s : List ℕ) (sets : List FactSet) (i c f : ℕ) (x : FactSet) (h : Collects s sets i) (p : c ≡ code s i) (q : f ≡ fact s i) (l : c < 516) (lo : 1 ≤ f) (hi : f ≤ 64) (adds : (g : ℕ) → has g (facts_in x) ≡ ((eqb g f && (leb 1 f && leb f 64)) || has g (facts_in (get_or sets c empty_set)))) where
   here : (g : ℕ) → has g (facts_in x) ≡ ((eqb (code s i) c && eqb (fact s i) g) || among s c g i)
   here g =
-      adds g
-      ∙ ap (λ (t : Bool). t || has g (facts_in (get_or sets c d))) (and_swap (eqb (code s i) c) (eqb g f) (leb 1 f && leb f 64) (eq-eqb (code s i) c (sym p)) (and_from _ _ (le-leb 1 f lo) (le-leb f 64 hi)) ∙ ap (λ (t : Bool). eqb (code s i) c && t) (test_swap g f ∙ ap (λ n. eqb n g) q))
-      ∙ ap (λ (t : Bool). (eqb (code s i) c && eqb (fact s i) g) || t) (ap (λ (y : FactSet). has g (facts_in y)) (get_or_default sets c d empty_set (omega (arith, h.long))) ∙ h.lists c g l)
+      let added = adds g in
+      let before = h.lists c g l in
+      grind (arith, nat_tests)
 
   pub collect_more : Collects s (set sets c x) (i + 1)
   collect_more = record {
     long = length-set sets c x ∙ h.long;
     lists = λ e g k. rw add-one
         (⊎_elim
-        (λ (z : e ≡ c). ap (λ n. has g (facts_in (get_or (set sets c x) n empty_set))) z ∙ ap (λ (y : FactSet). has g (facts_in y)) (get_or-set_same sets c x empty_set (omega (arith, h.long))) ∙ here g ∙ ap (λ n. (eqb (code s i) n && eqb (fact s i) g) || among s n g i) (sym z))
-        (λ (ne : e ≡ c → ⊥). ap (λ (y : FactSet). has g (facts_in y)) (get_or-set_other sets c e x empty_set ne) ∙ h.lists e g k ∙ ap (λ (t : Bool). t || among s e g i) (sym (and_left (eqb (code s i) e) (eqb (fact s i) g) (ne_eqb (code s i) e (λ z. ne (sym z ∙ sym p))))))
+        (λ (z : e ≡ c).
+        let new : get_or (set sets c x) e empty_set ≡ x = ap (λ n. get_or (set sets c x) n empty_set) z ∙ get_or-set_same sets c x empty_set (omega (arith, h.long)) in
+        ap (λ (y : FactSet). has g (facts_in y)) new ∙ here g ∙ ap (λ n. (eqb (code s i) n && eqb (fact s i) g) || among s n g i) (sym z))
+        (λ (ne : e ≡ c → ⊥).
+        let before = h.lists e g k in
+        rw (get_or-set_other sets c e x empty_set ne) (grind (arith, nat_tests)))
         (cases_eq e c));
   }
 
@@ -59,27 +60,17 @@ set_is_listed s x c few h e =
     kept_same (bit x.bits) (has_pair s c) 1 64 (λ f l u. sym (has_bit x f l (omega arith)) ∙ e f)
     ∙ kept_shorter (has_pair s c) 1 (facts s) 64 few (λ f l. past_facts s c f h (omega arith))
 
+-- the sets of step a's second and third code have a common fact
+abbrev pub meeting : List FactSet → ℕ → Bool
+meeting sets a = shares (facts_in (get_or sets (4 * a + 1) empty_set)) (facts_in (get_or sets (4 * a + 2) empty_set))
+
 module _ (s : List ℕ) (sets : List FactSet) (n : ℕ) (e : n ≡ pairs s) (few : facts s ≤ 64) (h : scan s n ≡ 0) (t : Collects s sets n) where
-  pub under_listed : (c : ℕ) (d : FactSet) → c < 516 → facts_in (get_or sets c d) ≡ listed s c
-  under_listed c d l = set_is_listed s (get_or sets c d) c few (ap (scan s) (sym e) ∙ h) (λ f. ap (λ (y : FactSet). has f (facts_in y)) (get_or_default sets c d empty_set (omega (arith, t.long))) ∙ t.lists c f l ∙ ap (among s c f) e)
+  pub under_listed : (c : ℕ) → c < 516 → facts_in (get_or sets c empty_set) ≡ listed s c
+  under_listed c l = set_is_listed s (get_or sets c empty_set) c few (ap (scan s) (sym e) ∙ h) (λ f. t.lists c f l ∙ ap (among s c f) e)
 
-  pub meets_clashes : (a : ℕ) (x y : FactSet) → a ≤ 128 → shares (facts_in (get_or sets (4 * a + 1) x)) (facts_in (get_or sets (4 * a + 2) y)) ≡ clashes s a
-  meets_clashes a x y l =
-      ap (λ xs. shares xs (facts_in (get_or sets (4 * a + 2) y))) (under_listed (4 * a + 1) x (omega arith))
-      ∙ ap (shares (listed s (4 * a + 1))) (under_listed (4 * a + 2) y (omega arith))
+  step_clashes : (a : ℕ) → a ≤ 128 → meeting sets a ≡ clashes s a
+  step_clashes a l = λ i. shares (under_listed (4 * a + 1) (omega arith) i) (under_listed (4 * a + 2) (omega arith) i)
 
--- whether some step from a on clashes
-abbrev pub clash_from : List ℕ → ℕ → ℕ → Bool
-clash_from s n a = any (clashes s) (range_with_len a (n + 1 - a))
-
-pub clash_all : (s : List ℕ) (n : ℕ) → any (clashes s) (range_with_len 1 n) ≡ clash_from s n 1
-clash_all s n = let e : n ≡ n + 1 - 1 = omega arith in ap (λ k. any (clashes s) (range_with_len 1 k)) e
-
-pub clash_here : (s : List ℕ) (n a : ℕ) → a < n + 1 → clashes s a ≡ true → clash_from s n a ≡ true
-clash_here s n a l e = ap (any (clashes s)) (counting_next a (n + 1) l) ∙ or_left (clashes s a) _ e
-
-pub clash_later : (s : List ℕ) (n a : ℕ) → a < n + 1 → clashes s a ≡ false → clash_from s n a ≡ clash_from s n (a + 1)
-clash_later s n a l e = ap (any (clashes s)) (counting_next a (n + 1) l) ∙ ap (λ (t : Bool). t || clash_from s n (a + 1)) e
-
-pub clash_over : (s : List ℕ) (n a : ℕ) → n + 1 ≤ a → clash_from s n a ≡ false
-clash_over s n a l = ap (any (clashes s)) (counting_over a (n + 1) l)
+  pub meeting_clashes : (a k : ℕ) → a + k ≤ 129 → list_any (meeting sets) (range_with_len a k) ≡ any (clashes s) (range_with_len a k)
+  meeting_clashes a zero l = refl
+  meeting_clashes a (suc k) l = λ i. step_clashes a (omega arith) i || meeting_clashes (a + 1) k (omega arith) i

@@ -2,6 +2,7 @@
 use Rattle.std.proofs.Common.{◌≡◌, ℕ, zero, suc, ◌+◌, ◌-◌, ◌*◌, ◌%◌, ◌<◌, ◌≤◌, Bool, true, false, cond, not, eqb, ltb, ◌⊎◌, List, length, sym, refl, ap, ◌∙◌, subst, inl, inr, ⊎_elim, arith}
 use Rattle.std.specs.List.{range_with_len}
 use Rattle.std.proofs.lemmas.Bool.{cond-true, cond-false, eq-eqb, ne_eqb, cases_eq, cases_lt, and_parts, or_cases, leb-true, ltb-true, eqb-true, eqb-false, not-true, not-false, not_from_false, not_from_true, both_ways}
+use Rattle.std.proofs.lemmas.Bool.Decides.{nat_tests}
 use Rattle.rules.specs.Lists.{In, any, has}
 use Rattle.rules.specs.Problems.{Sound}
 use Rattle.rules.proofs.Tests.{in_any, in_has}
@@ -11,14 +12,6 @@ use Rattle.problem.specs.Listed.{has_pair, listed, problem_of}
 use Rattle.problem.specs.Verdict.{headed, known, below, rises, pair_verdict, scan, clashes, verdict}
 use Rattle.problem.proofs.Scans.{none_among, NotAt}
 
--- a verdict's way: a refusal that is not 0 was not given
-past : (b : Bool) (x y : ℕ) → cond b x y ≡ 0 → (x ≡ 0 → ⊥) → (b ≡ false) × (y ≡ 0)
-past true x y h ne = absurd (ne h)
-past false x y h ne = (refl, h)
-
-whole : (x y : ℕ) → cond (not (eqb x 0)) x y ≡ 0 → (x ≡ 0) × (y ≡ 0)
-whole x y h = ⊎_elim (λ e. (e, sym (cond-false _ x y (not_from_true _ (eq-eqb x 0 e))) ∙ h)) (λ ne. absurd (ne (sym (cond-true _ x y (not_from_false _ (ne_eqb x 0 ne))) ∙ h))) (cases_eq x 0)
-
 -- each test of a verdict of 0
 pub record Passed (s : List ℕ) : Type 0 where
   pub head : headed s ≡ true
@@ -27,26 +20,17 @@ pub record Passed (s : List ℕ) : Type 0 where
   pub no_clash : any (clashes s) (range_with_len 1 (steps s)) ≡ false
 
 pub passed : (s : List ℕ) → verdict s ≡ 0 → Passed s
-passed s h =
-    let p = past (ltb (length s) 6) 1 _ h (λ e. omega arith) in
-    let q = past (not (headed s)) 2 _ p.1 (λ e. omega arith) in
-    let r = past (not (eqb (length s) (6 + 4 * pairs s))) 3 _ q.1 (λ e. omega arith) in
-    let w = whole (scan s (pairs s)) _ r.1 in
-    let x = past (any (clashes s) (range_with_len 1 (steps s))) 6 0 w.1 (λ e. omega arith) in
-    record {
-      head = not-false _ q.0;
-      long = eqb-true _ _ (not-false _ r.0);
-      scanned = w.0;
-      no_clash = x.0;
-    }
+passed s h = record {
+  head = grind (arith, nat_tests);
+  long = grind (arith, nat_tests);
+  scanned = grind (arith, nat_tests);
+  no_clash = grind (arith, nat_tests);
+}
 
 pub lawful_head : (s : List ℕ) → verdict s ≡ 0 → (1 ≤ facts s) × (facts s ≤ 64) × (steps s ≤ 128) × (pairs s ≤ 4096) × (length s ≡ 6 + 4 * pairs s)
 lawful_head s h =
     let t = passed s h in
-    let p = and_parts _ _ t.head in
-    let q = and_parts _ _ p.0 in
-    let r = and_parts _ _ p.1 in
-    (leb-true _ _ q.0, leb-true _ _ q.1, leb-true _ _ r.0, leb-true _ _ r.1, t.long)
+    (grind (arith, nat_tests), grind (arith, nat_tests), grind (arith, nat_tests), grind (arith, nat_tests), t.long)
 
 pub lawful_scan : (s : List ℕ) → verdict s ≡ 0 → scan s (pairs s) ≡ 0
 lawful_scan s h = (passed s h).scanned
@@ -54,24 +38,17 @@ lawful_scan s h = (passed s h).scanned
 pub scan_each : (s : List ℕ) (n k : ℕ) → scan s n ≡ 0 → k < n → pair_verdict s k ≡ 0
 scan_each s zero k h lt = omega arith
 scan_each s (suc n) k h lt =
-    ⊎_elim
-    (λ e. let last : pair_verdict s n ≡ 0 = sym (cond-true _ (pair_verdict s n) (scan s n) (eq-eqb _ _ e)) ∙ h in
-    ⊎_elim (λ l. scan_each s n k e l) (λ l. let z : k ≡ n = omega arith in ap (pair_verdict s) z ∙ last) (cases_lt k n))
-    (λ ne. absurd (ne (sym (cond-false _ (pair_verdict s n) (scan s n) (ne_eqb _ _ ne)) ∙ h)))
-    (cases_eq (scan s n) 0)
+    let before : scan s n ≡ 0 = grind (arith, nat_tests) in
+    let last : pair_verdict s n ≡ 0 = grind (arith, nat_tests) in
+    ⊎_elim (λ l. scan_each s n k before l) (λ l. let z : k ≡ n = omega arith in ap (pair_verdict s) z ∙ last) (cases_lt k n)
 
 ways : (a b : Bool) → ◌≡◌ {A = ℕ} (cond a (cond b 0 5) 4) 0 → (a ≡ true) × (b ≡ true)
-ways true true h = (refl, refl)
-ways true false h = absurd (omega arith)
-ways false b h = absurd (omega arith)
+ways a b h = (grind arith, grind arith)
 
 pub scan_known : (s : List ℕ) (n k : ℕ) → scan s n ≡ 0 → k < n → (code s k ≤ 4 * steps s + 2) × (1 ≤ fact s k) × (fact s k ≤ facts s) × (code s k ≡ 2 → ⊥) × (code s k % 4 ≡ 3 → ⊥)
 scan_known s n k h lt =
-    let p = and_parts _ _ (ways (known s k) (rises s k) (scan_each s n k h lt)).0 in
-    let q = and_parts _ _ p.1 in
-    let r = and_parts _ _ q.1 in
-    let t = and_parts _ _ r.1 in
-    (leb-true _ _ q.0, leb-true _ _ t.0, leb-true _ _ t.1, eqb-false _ _ (not-true _ p.0), eqb-false _ _ (not-true _ r.0))
+    let passes = scan_each s n k h lt in
+    (grind (arith, nat_tests), grind (arith, nat_tests), grind (arith, nat_tests), grind (arith, nat_tests), grind (arith, nat_tests))
 
 -- one pair is below another
 abbrev pub Lt : ℕ → ℕ → ℕ → ℕ → Type 0
@@ -83,12 +60,8 @@ lt_trans a b c d e f (inl p) (inr q) = inl (omega arith)
 lt_trans a b c d e f (inr p) (inl q) = inl (omega arith)
 lt_trans a b c d e f (inr p) (inr q) = inr (omega arith, omega arith)
 
-pub lt_apart : (a b c d : ℕ) → Lt a b c d → a ≡ c → b ≡ d → ⊥
-lt_apart a b c d (inl p) e g = omega arith
-lt_apart a b c d (inr p) e g = omega arith
-
 pub lt_below : (c f d g : ℕ) → below c f d g ≡ true → Lt c f d g
-lt_below c f d g b = ⊎_elim (λ l. inl (ltb-true _ _ l)) (λ e. let q = and_parts _ _ e in inr (eqb-true _ _ q.0, ltb-true _ _ q.1)) (or_cases _ _ b)
+lt_below c f d g b = grind (arith, nat_tests)
 
 next : (s : List ℕ) (n k : ℕ) → scan s n ≡ 0 → suc k < n → Lt (code s k) (fact s k) (code s (suc k)) (fact s (suc k))
 next s n k h lt =
@@ -110,31 +83,10 @@ rising s n j (suc k) h l lt =
     (λ m. let e : j ≡ k = omega arith in subst (λ i. Lt (code s i) (fact s i) (code s (suc k)) (fact s (suc k))) (sym e) step)
     (cases_lt j k)
 
-module _ (s : List ℕ) (n c f mid : ℕ) (h : scan s n ≡ 0) (inside : mid < n) where
-  pub out_below : Lt (code s mid) (fact s mid) c f → (k : ℕ) → k < mid + 1 → NotAt s c f k
-  out_below l k lt e g =
-      ⊎_elim
-      (λ m. lt_apart _ _ c f (lt_trans _ _ _ _ _ _ (rising s n k mid h m inside) l) e g)
-      (λ m. let z : k ≡ mid = omega arith in lt_apart _ _ c f l (ap (code s) (sym z) ∙ e) (ap (fact s) (sym z) ∙ g))
-      (cases_lt k mid)
-
-  pub out_above : Lt c f (code s mid) (fact s mid) → (k : ℕ) → mid ≤ k → k < n → NotAt s c f k
-  out_above l k ge lt e g =
-      ⊎_elim
-      (λ m. lt_apart c f _ _ (lt_trans _ _ _ _ _ _ l (rising s n mid k h m lt)) (sym e) (sym g))
-      (λ m. let z : k ≡ mid = omega arith in lt_apart c f _ _ l (sym (ap (code s) (sym z) ∙ e)) (sym (ap (fact s) (sym z) ∙ g)))
-      (cases_lt mid k)
-
--- no pair is of a step or of a fact that there is not, and none has code 2
+-- no pair is of a step that there is not, and none has code 2
 module _ (s : List ℕ) (c f : ℕ) (h : verdict s ≡ 0) where
   pub past_steps : 4 * steps s + 2 < c → has_pair s c f ≡ false
   past_steps far = none_among s c f (pairs s) (λ k lt e g. let l = scan_known s (pairs s) k (lawful_scan s h) lt in omega arith)
-
-  pub past_facts : facts s < f → has_pair s c f ≡ false
-  past_facts far = none_among s c f (pairs s) (λ k lt e g. let l = scan_known s (pairs s) k (lawful_scan s h) lt in omega arith)
-
-  pub no_fact_0 : f ≡ 0 → has_pair s c f ≡ false
-  no_fact_0 z = none_among s c f (pairs s) (λ k lt e g. let l = scan_known s (pairs s) k (lawful_scan s h) lt in omega arith)
 
   pub no_code_2 : c ≡ 2 → has_pair s c f ≡ false
   no_code_2 z = none_among s c f (pairs s) (λ k lt e g. let l = scan_known s (pairs s) k (lawful_scan s h) lt in l.3 (e ∙ z))

@@ -4,6 +4,7 @@ use Rattle.std.specs.List.{range_with_len, AllByRecursion}
 use Rattle.std.proofs.ByRecursion.{All-get_or, All-from_get_or}
 use Rattle.std.proofs.lemmas.List.{get_or_append_left, get_or-append_right, get_or-map, length-append, length-map, length-drop, length-take-le, take-append-drop}
 use Rattle.std.proofs.lemmas.Bool.{cond-true, cond-false, eq-eqb, ne_eqb, cases_eq, and_from, or_left, or_right, le-leb, lt-ltb, le-ltb, not_from_false, not_from_true}
+use Rattle.std.proofs.lemmas.Bool.Decides.{nat_tests}
 use Rattle.rules.specs.Lists.{In, any, has, each}
 use Rattle.rules.proofs.Tests.{any_in, any_none, has_in}
 use Rattle.rules.proofs.Members.{in_counting, kept_in, in_kept}
@@ -226,7 +227,7 @@ module _ (s : List ℕ) (f a : ℕ) (ps : List Pair) (st : Stands s f a ps) wher
         let p = w.few_facts in
         let q = w.few_steps in
         let r = w.few_pairs in
-        and_from _ _ (and_from _ _ (le-leb 1 (facts s) (omega arith)) (le-leb (facts s) 64 (omega arith))) (and_from _ _ (le-leb (steps s) 128 (omega arith)) (le-leb (pairs s) 4096 (omega arith)))
+        grind (arith, nat_tests)
 
     known_passes : (k : ℕ) → k < length ps → known s k ≡ true
     known_passes k l =
@@ -236,10 +237,7 @@ module _ (s : List ℕ) (f a : ℕ) (ps : List Pair) (st : Stands s f a ps) wher
         let v = st.steps_is in
         let c = code_known a (at ps k).code (w.known_codes (at ps k) (in_at ps k l)) in
         let g = w.known_facts (at ps k) (in_at ps k l) in
-        and_from _ _ (not_from_false _ (ne_eqb (code s k) 2 (λ e. c.1 (sym x ∙ e))))
-        (and_from _ _ (le-leb (code s k) (4 * steps s + 2) (omega arith))
-        (and_from _ _ (not_from_false _ (ne_eqb (code s k % 4) 3 (λ e. c.2 (ap (λ n. n % 4) (sym x) ∙ e))))
-        (and_from _ _ (le-leb 1 (fact s k) (omega arith)) (le-leb (fact s k) (facts s) (omega arith)))))
+        grind (arith, nat_tests)
 
     rise_passes : (k : ℕ) → k < length ps → rises s k ≡ true
     rise_passes zero l = refl
@@ -251,8 +249,7 @@ module _ (s : List ℕ) (f a : ℕ) (ps : List Pair) (st : Stands s f a ps) wher
         (moved (st.code_is k h) (st.fact_is k h) (st.code_is (suc k) l) (st.fact_is (suc k) l) (rising_at ps w.rises k (suc k) (omega arith) l)))
       where
         moved : {c d e g : ℕ} {p q : Pair} → c ≡ p.code → d ≡ p.fact → e ≡ q.code → g ≡ q.fact → Before p q → below c d e g ≡ true
-        moved {c} {d} {e} {g} x y u v (inl b) = or_left _ _ (lt-ltb c e (omega arith))
-        moved {c} {d} {e} {g} x y u v (inr b) = or_right _ _ (and_from _ _ (eq-eqb c e (omega arith)) (lt-ltb d g (omega arith)))
+        moved x y u v b = grind (arith, nat_tests)
 
     scan_passes : (n : ℕ) → n ≤ length ps → scan s n ≡ 0
     scan_passes zero l = refl
@@ -272,10 +269,9 @@ module _ (s : List ℕ) (f a : ℕ) (ps : List Pair) (st : Stands s f a ps) wher
         let u = st.pairs_is in
         let x = st.long in
         let whole : scan s (pairs s) ≡ 0 = scan_passes (pairs s) (omega arith) in
-        cond-false _ _ _ (le-ltb (length s) 6 (omega arith))
-        ∙ (cond-false _ _ _ (not_from_true _ head_passes)
-        ∙ (cond-false _ _ _ (not_from_true _ (eq-eqb (length s) (6 + 4 * pairs s) (omega arith)))
-        ∙ (cond-false _ _ _ (not_from_true _ (eq-eqb _ 0 whole)) ∙ cond-false _ _ _ none_clashes)))
+        let head = head_passes in
+        let apart = none_clashes in
+        grind (arith, nat_tests)
 
 pub granted_is_rendering_lem : GrantedIsRendering
 granted_is_rendering_lem s h = (

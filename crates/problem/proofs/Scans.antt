@@ -1,36 +1,26 @@
 -- What a scan of the pairs keeps from turn to turn.
 use Rattle.std.proofs.Common.{◌≡◌, ℕ, zero, suc, ◌+◌, ◌<◌, ◌≤◌, true, false, ◌&&◌, eqb, List, Decides, sym, refl, ap, ◌∙◌, ⊎_elim, add-one, arith}
 use Rattle.std.proofs.lemmas.Bool.{cond-true, cond-false, eq-eqb, ne_eqb, cases_lt, cases_eq, cases_Bool, and_left, and_right, or_from}
-use Rattle.std.proofs.lemmas.Bool.Decides.{Decides-below_or, Decides-and, Decides-eqb}
+use Rattle.std.proofs.lemmas.Bool.Decides.{Decides-below_or, Decides-and, Decides-eqb, nat_tests}
 use Rattle.problem.specs.Bytes.{code, fact}
 use Rattle.problem.specs.Listed.{among}
 use Rattle.problem.specs.Verdict.{scan, pair_verdict}
 
 pub scan_more : (s : List ℕ) (i : ℕ) → scan s i ≡ 0 → scan s (i + 1) ≡ pair_verdict s i
-scan_more s i h = rw (add-one i) (cond-true _ _ _ (eq-eqb _ _ h))
+scan_more s i h = rw (add-one i) (grind (arith, nat_tests))
 
 -- the first refusal stays
 pub scan_stays : (s : List ℕ) (m n : ℕ) → m ≤ n → (scan s m ≡ 0 → ⊥) → scan s n ≡ scan s m
 scan_stays s m zero h ne = let z : m ≡ 0 = omega arith in absurd (ne (ap (scan s) z))
 scan_stays s m (suc n) h ne =
     ⊎_elim
-    (λ l. let ih = scan_stays s m n (omega arith) ne in cond-false _ _ _ (ne_eqb _ _ (λ z. ne (sym ih ∙ z))) ∙ ih)
+    (λ l. let ih = scan_stays s m n (omega arith) ne in grind (arith, nat_tests))
     (λ l. let e : suc n ≡ m = omega arith in ap (scan s) e)
     (cases_lt m (suc n))
 
 pub among_decides : (s : List ℕ) (c f n : ℕ) → Decides (among s c f n) ((k : ℕ) × (k < n) × ((code s k ≡ c) × (fact s k ≡ f)))
 among_decides s c f n =
     Decides-below_or (λ k. eqb (code s k) c && eqb (fact s k) f) (λ k. (code s k ≡ c) × (fact s k ≡ f)) (among s c f) (λ k. Decides-and _ _ (Decides-eqb (code s k) c) (Decides-eqb (fact s k) f)) refl (λ _. refl) n
-
-pub among_found : (s : List ℕ) (c f n k : ℕ) → k < n → code s k ≡ c → fact s k ≡ f → among s c f n ≡ true
-among_found s c f n k h p q = (among_decides s c f n).1 (k, h, (p, q))
-
-pub among_more : (s : List ℕ) (c f i : ℕ) → among s c f i ≡ false → (code s i ≡ c → fact s i ≡ f → ⊥) → among s c f (i + 1) ≡ false
-among_more s c f i h ne =
-    rw (add-one i)
-    (or_from _ _
-    (⊎_elim (λ e. and_right _ _ (ne_eqb _ _ (ne e))) (λ n. and_left _ _ (ne_eqb _ _ n)) (cases_eq (code s i) c))
-    h)
 
 -- the pair of code c and fact f is not at k
 abbrev pub NotAt : List ℕ → ℕ → ℕ → ℕ → Type 0

@@ -26,10 +26,3 @@ module _ (t : StepTable) (a : ℕ) (h : 128 < a) where
   no_part Needs = sym (far (4 * a) (omega arith))
   no_part Sets = sym (far (4 * a + 1) (omega arith))
   no_part Clears = sym (far (4 * a + 2) (omega arith))
-
-  pub no_step : (x y z : FactSet) → facts_in x ≡ [] → facts_in y ≡ [] → facts_in z ≡ [] → meaning (record { number = a; needs = x; sets = y; clears = z }) ≡ step (means t) a
-  no_step x y z p q r =
-      let e : facts_in x ≡ under t.sets (4 * a) = p ∙ sym (far (4 * a) (omega arith)) in
-      let f : facts_in y ≡ under t.sets (4 * a + 1) = q ∙ sym (far (4 * a + 1) (omega arith)) in
-      let g : facts_in z ≡ under t.sets (4 * a + 2) = r ∙ sym (far (4 * a + 2) (omega arith)) in
-      cc

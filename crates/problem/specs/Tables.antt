@@ -34,12 +34,6 @@ part_of p Needs = p.needs
 part_of p Sets = p.sets
 part_of p Clears = p.clears
 
--- a part's place among a step's four codes
-abbrev pub offset_of : Part → ℕ
-offset_of Needs = 0
-offset_of Sets = 1
-offset_of Clears = 2
-
 -- the record of step a where there is such a step, and nothing elsewhere
 abbrev pub StepAsked : Problem → ℕ → Option StepRecord → Type 0
 StepAsked p a None = (a < 1) ⊎ (p.steps < a)

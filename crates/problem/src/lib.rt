@@ -2,9 +2,9 @@
 #![tactic(auto)]
 
 mod laws;
+mod listing;
 mod part;
 mod problem;
-mod reading;
 mod table;
 
 pub use laws::{granted_is_rendering, granted_is_sound, reads_the_listing};

@@ -1,54 +1,33 @@
 -- What stands in a range of numbers that is filtered, and in a set of facts.
-use Rattle.std.proofs.Common.{◌≡◌, ℕ, zero, suc, ◌+◌, ◌<◌, ◌≤◌, Bool, true, false, cond, ◌||◌, eqb, ◌⊎◌, List, [], ◌∷◌, filter, sym, refl, ap, ◌∙◌, inl, inr, ⊎_elim, arith}
+use Rattle.std.proofs.Common.{◌≡◌, ℕ, zero, suc, ◌+◌, ◌<◌, ◌≤◌, Bool, false, cond, ◌⊎◌, List, [], ◌∷◌, filter, refl, ap, ◌∙◌, ⊎_elim, arith}
 use Rattle.std.specs.List.{range_with_len}
-use Rattle.std.proofs.lemmas.Bool.{cases_eq, cases_lt, eq-eqb, ne_eqb, or_left, or_from}
 use Rattle.rules.specs.Lists.{has}
+use Rattle.rules.proofs.Tests.{same, is_false, has_in, in_has}
+use Rattle.rules.proofs.Members.{counting_in, in_counting, kept_in, in_kept}
 use Rattle.steps.specs.declared.fact_set.FactSet.{FactSet}
 use Rattle.steps.specs.Sets.{bit, facts_in}
-
--- below the range nothing stands
-has_low : (p : ℕ → Bool) (a n f : ℕ) → f < a → has f (filter p (range_with_len a n)) ≡ false
-has_low p a zero f h = refl
-has_low p a (suc n) f h =
-    let ih = has_low p (a + 1) n f (omega arith) in
-    let off : eqb f a ≡ false = ne_eqb f a (λ e. omega arith) in
-    elim (p a) as (λ (b : Bool). has f (cond b (a ∷ filter p (range_with_len (a + 1) n)) (filter p (range_with_len (a + 1) n))) ≡ false) [ true ↦ or_from (eqb f a) _ off ih | false ↦ ih ]
-
-has_first : (b : Bool) (a f : ℕ) (rest : List ℕ) → f ≡ a → has f rest ≡ false → has f (cond b (a ∷ rest) rest) ≡ b
-has_first true a f rest e h = or_left (eqb f a) (has f rest) (eq-eqb f a e)
-has_first false a f rest e h = h
-
-has_later : (b : Bool) (a f : ℕ) (rest : List ℕ) → (f ≡ a → ⊥) → has f (cond b (a ∷ rest) rest) ≡ has f rest
-has_later true a f rest ne = ap (λ (t : Bool). t || has f rest) (ne_eqb f a ne)
-has_later false a f rest ne = refl
-
--- in the range a number stands where it passes
-pub has_within : (p : ℕ → Bool) (a n f : ℕ) → a ≤ f → f < a + n → has f (filter p (range_with_len a n)) ≡ p f
-has_within p a zero f h k = absurd (omega arith)
-has_within p a (suc n) f h k =
-    let rest = filter p (range_with_len (a + 1) n) in
-    ⊎_elim
-    (λ (e : f ≡ a). has_first (p a) a f rest e (has_low p (a + 1) n f (omega arith)) ∙ ap p (sym e))
-    (λ (ne : f ≡ a → ⊥). has_later (p a) a f rest ne ∙ has_within p (a + 1) n f (omega arith) (omega arith))
-    (cases_eq f a)
-
-pub has_past : (p : ℕ → Bool) (a n f : ℕ) → a + n ≤ f → has f (filter p (range_with_len a n)) ≡ false
-has_past p a zero f h = refl
-has_past p a (suc n) f h =
-    has_later (p a) a f (filter p (range_with_len (a + 1) n)) (λ e. omega arith) ∙ has_past p (a + 1) n f (omega arith)
-
-pub has_outside : (p : ℕ → Bool) (a n f : ℕ) → (f < a) ⊎ (a + n ≤ f) → has f (filter p (range_with_len a n)) ≡ false
-has_outside p a n f (inl h) = has_low p a n f h
-has_outside p a n f (inr h) = has_past p a n f h
 
 -- a fact from 1 to 64 is in the set where its bit is set
 pub has_bit : (s : FactSet) (f : ℕ) → 1 ≤ f → f ≤ 64 → has f (facts_in s) ≡ bit s.bits f
 unfolding facts_in
-has_bit s f h k = has_within (bit s.bits) 1 64 f h (omega arith)
+has_bit s f h k =
+    let all = range_with_len 1 64 in
+    same _ _
+    (λ e. (kept_in (bit s.bits) all f (has_in f _ e)).1)
+    (λ e. in_has f _ (in_kept (bit s.bits) all f (in_counting 1 64 f h (omega arith)) e))
 
-pub has_no_bit : (s : FactSet) (f : ℕ) → (f < 1) ⊎ (65 ≤ f) → has f (facts_in s) ≡ false
+-- not from 1 to 64
+abbrev pub Outside : ℕ → Type 0
+Outside f = (f < 1) ⊎ ((1 ≤ f) × (64 < f))
+
+-- and no other fact is
+pub has_no_bit : (s : FactSet) (f : ℕ) → Outside f → has f (facts_in s) ≡ false
 unfolding facts_in
-has_no_bit s f h = has_outside (bit s.bits) 1 64 f h
+has_no_bit s f o =
+    is_false _
+    (λ e.
+    let m : (1 ≤ f) × (f < 1 + 64) = counting_in 1 64 f (kept_in (bit s.bits) (range_with_len 1 64) f (has_in f _ e)).0 in
+    ⊎_elim (λ (l : f < 1). omega arith) (λ (u : (1 ≤ f) × (64 < f)). omega arith) o)
 
 -- what passes in two ranges with one test is the same where the test fails past the shorter
 kept_none : (p : ℕ → Bool) (a n : ℕ) → ((f : ℕ) → a ≤ f → p f ≡ false) → filter p (range_with_len a n) ≡ []
@@ -67,7 +46,3 @@ kept_same p q a zero h = refl
 kept_same p q a (suc n) h =
     ap (λ (b : Bool). cond b (a ∷ filter p (range_with_len (a + 1) n)) (filter p (range_with_len (a + 1) n))) (h a (omega arith) (omega arith))
     ∙ ap (λ (rest : List ℕ). cond (q a) (a ∷ rest) rest) (kept_same p q (a + 1) n (λ f k l. h f (omega arith) (omega arith)))
-
--- a number that is not from 1 to 64
-pub outside : (f : ℕ) → (1 ≤ f → f ≤ 64 → ⊥) → (f < 1) ⊎ (65 ≤ f)
-outside f h = ⊎_elim (λ (l : f < 1). inl l) (λ (l : 1 ≤ f). ⊎_elim (λ (u : f < 65). absurd (h l (omega arith))) (λ (u : 65 ≤ f). inr u) (cases_lt f 65)) (cases_lt f 1)

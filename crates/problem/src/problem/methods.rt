@@ -7,8 +7,8 @@ ghost use Rattle.problem.specs.Verdict.{verdict};
 ghost use Rattle.problem.specs.Rendering.{Renders};
 ghost use Rattle.problem.specs.Tables.{means, StepAsked};
 
+use crate::listing::Listing;
 use crate::problem::Problem;
-use crate::reading::{judge, number};
 use crate::table::StepTable;
 use rules::Refusal;
 use steps::StepRecord;
@@ -19,12 +19,12 @@ pub fn read_problem<'a>(problem: &mut Problem<'a>, bytes: &'a [u8]) -> Result<()
     ensures grants_exactly_renderings { MatchResult result (λ _. Renders bytes.now) (λ _. Renders bytes.now → ⊥) }
     ensures filled_or_kept { MatchResult result (λ _. problem.new.bytes.now ≡ bytes.now) (λ _. problem.new ≡ problem.old) }
 {
-    judge(bytes)?;
+    let listing = Listing::read(bytes)?;
     *problem = Problem {
         bytes,
-        facts: number(bytes, 0),
-        steps: number(bytes, 2),
-        pairs: number(bytes, 4),
+        facts: listing.facts,
+        steps: listing.steps,
+        pairs: listing.pairs,
     };
     Ok(())
 }
@@ -63,11 +63,22 @@ impl<'a> Problem<'a> {
         self.pairs
     }
 
+    fn listing(&self) -> Listing<'a>
+        ensures same_bytes { result.bytes.now ≡ self.now.bytes.now }
+    {
+        Listing {
+            bytes: self.bytes,
+            facts: self.facts,
+            steps: self.steps,
+            pairs: self.pairs,
+        }
+    }
+
     // All its sets, in one pass over the pairs: for whoever asks more than one question.
     pub fn table(&self) -> StepTable
         ensures states_the_problem { means result ≡ problem_of self.now.bytes.now }
     {
-        StepTable::read(self.bytes, self.facts, self.steps, self.pairs)
+        StepTable::read(&self.listing())
     }
 
     pub fn at_start(&self, fact: usize) -> bool

@@ -1,27 +1,26 @@
-ghost use Rattle.std.specs.Prelude.{◌≡◌, ℕ, ◌+◌, ◌*◌, ◌<◌, ◌≤◌};
+ghost use Rattle.std.specs.Prelude.{◌≡◌, ◌<◌};
 ghost use Rattle.rules.specs.Lists.{has as has_fact};
 ghost use Rattle.rules.specs.Problems.{step as step_of};
 ghost use Rattle.steps.specs.Sets.{facts_in, meaning};
-ghost use Rattle.problem.specs.Bytes.{Sized};
 ghost use Rattle.problem.specs.Listed.{problem_of};
 ghost use Rattle.problem.specs.Verdict.{verdict};
-ghost use Rattle.problem.specs.Tables.{means, under, part_of, offset_of};
+ghost use Rattle.problem.specs.Tables.{means, under, part_of};
 
+use crate::listing::Listing;
 use crate::part::Part;
-use crate::reading::collect;
 use crate::table::StepTable;
 use steps::{FactSet, StepRecord};
 
 impl StepTable {
-    // The table of bytes that are a problem, in one pass over their pairs.
-    pub(crate) fn read(bytes: &[u8], facts: usize, steps: usize, pairs: usize) -> StepTable
-        requires { (verdict bytes.now ≡ 0) × (Sized bytes.now facts steps pairs) }
-        ensures states_the_problem { means result ≡ problem_of bytes.now }
+    // The table of a problem, in one pass over its pairs.
+    pub(crate) fn read(listing: &Listing) -> StepTable
+        requires lawful { verdict listing.now.bytes.now ≡ 0 }
+        ensures states_the_problem { means result ≡ problem_of listing.now.bytes.now }
     {
         StepTable {
-            facts,
-            steps,
-            sets: collect(bytes, facts, steps, pairs),
+            facts: listing.facts,
+            steps: listing.steps,
+            sets: listing.collect(),
         }
     }
 
@@ -52,7 +51,7 @@ impl StepTable {
         if a > 128 {
             return FactSet::empty();
         }
-        self.sets[4 * a + offset(part)]
+        self.sets[4 * a + part as usize]
     }
 
     // Whether step a needs, sets or clears the fact.
@@ -66,31 +65,11 @@ impl StepTable {
     pub fn step(&self, a: usize) -> StepRecord
         ensures answers_step { meaning result ≡ step_of (means self.now) a }
     {
-        if a > 128 {
-            return StepRecord {
-                number: a,
-                needs: FactSet::empty(),
-                sets: FactSet::empty(),
-                clears: FactSet::empty(),
-            };
-        }
         StepRecord {
             number: a,
-            needs: self.sets[4 * a],
-            sets: self.sets[4 * a + 1],
-            clears: self.sets[4 * a + 2],
+            needs: self.part(Part::Needs, a),
+            sets: self.part(Part::Sets, a),
+            clears: self.part(Part::Clears, a),
         }
-    }
-}
-
-// A part's place among a step's four codes.
-fn offset(part: Part) -> usize
-    ensures place { result ≡ offset_of part }
-    ensures within { result ≤ 2 }
-{
-    match part {
-        Part::Needs => 0,
-        Part::Sets => 1,
-        Part::Clears => 2,
     }
 }

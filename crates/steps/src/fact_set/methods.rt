@@ -1,6 +1,6 @@
-ghost use Rattle.std.specs.Prelude.{◌≡◌, ℕ, ◌&&◌, ◌||◌, [], ◌==◌, nat_le};
+ghost use Rattle.std.specs.Prelude.{◌≡◌, ℕ, not, ◌&&◌, ◌||◌, [], ◌==◌, nat_le, MatchBool};
 ghost use Rattle.rules.specs.Lists.{has, shares};
-ghost use Rattle.steps.specs.Sets.{facts_in};
+ghost use Rattle.steps.specs.Sets.{facts_in, Subset};
 
 use crate::fact_set::FactSet;
 
@@ -40,6 +40,22 @@ impl FactSet {
         FactSet {
             bits: self.bits | other.bits,
         }
+    }
+
+    // The facts of self that are not in the other.
+    pub fn difference(self, other: FactSet) -> FactSet
+        ensures drops_facts { (f : ℕ) → has f (facts_in result) ≡ (has f (facts_in self) && not (has f (facts_in other))) }
+    {
+        FactSet {
+            bits: self.bits & !other.bits,
+        }
+    }
+
+    // Whether every fact of self is in the other.
+    pub fn is_subset(self, other: FactSet) -> bool
+        ensures answers_inclusion { MatchBool result (Subset self other) (Subset self other → ⊥) }
+    {
+        self.bits & !other.bits == 0
     }
 
     // Whether some fact is in both.

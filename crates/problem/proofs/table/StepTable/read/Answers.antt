@@ -5,5 +5,6 @@ use Rattle.problem.proofs.table.StepTable.read.Goals as goal
 
 pub returns : goal.returns
 returns c =
-    let s = c.args.bytes.now in
-    record { states_the_problem = stated s c.collect.result c.requires.0 (subst (Collects s c.collect.result) c.requires.1.is_pairs c.collect.ensures.collects_pairs) _ _ c.requires.1.is_facts c.requires.1.is_steps }
+    let s = c.args.listing.now.bytes.now in
+    let sized = c.args.listing.now.sized in
+    record { states_the_problem = stated s c.collect.result c.requires.lawful (subst (Collects s c.collect.result) sized.is_pairs c.collect.ensures.collects_pairs) _ _ sized.is_facts sized.is_steps }

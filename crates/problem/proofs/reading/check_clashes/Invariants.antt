@@ -1,9 +1,0 @@
-use Rattle.std.proofs.Common.{◌≡◌}
-use Rattle.std.specs.List.{range_with_len}
-use Rattle.rules.specs.Lists.{any}
-use Rattle.problem.specs.Verdict.{clashes}
-use Rattle.problem.proofs.Collecting.{clash_from}
-use Rattle.problem.proofs.reading.check_clashes.Given as goal
-
-abbrev pub invariant-loop-a : goal.invariant-loop-a
-invariant-loop-a l = any (clashes l.s) (range_with_len 1 l.steps) ≡ clash_from l.s l.steps l.a
