@@ -1,5 +1,5 @@
 -- Lines added to a list, one after another.
-use Rattle.std.proofs.Common.{◌≡◌, ◌+◌, ◌<◌, ◌≤◌, true, cond, ltb, [], ◌∷◌, ◌++◌, length, drop, is_ok, Ok, Err, Result, sym, refl, ap, ◌∙◌, subst, append_assoc, append-nil, arith}
+use Rattle.std.proofs.Common.{◌≡◌, ℕ, ◌+◌, ◌<◌, ◌≤◌, true, cond, ltb, [], ◌∷◌, ◌++◌, length, drop, is_ok, Ok, Err, Result, sym, refl, ap, ◌∙◌, subst, append_assoc, append-nil, arith}
 use mathlib.Core.List as L
 use mathlib.Core.Bool.{false≢true}
 use Rattle.std.proofs.lemmas.List.{drop-drop, length-append}
@@ -10,7 +10,9 @@ use Rattle.rules.specs.Refusals.{answer}
 use Rattle.problem.proofs.Refused.{refused}
 use Rattle.memory.specs.declared.lent_list.List.{List}
 use Rattle.memory.specs.Held.{items, spare, room, lent}
-use Rattle.decoding.specs.Added.{Written}
+use Rattle.rules.specs.Steps.{Rule}
+use Rattle.rules.specs.Problems.{Problem}
+use Rattle.decoding.specs.Added.{Written, Decodes}
 
 pub written_none : (a : List Line) → Written a [] a
 written_none a = record { holds = sym (append-nil (items a)); rest = refl; same_room = refl; same_loan = refl }
@@ -30,6 +32,10 @@ Way s all a left = (length (items a) + length left ≤ room a) × ((b : List Lin
 pub way_more : (s a b : List Line) (all left xs ys : L.List Line) → left ≡ xs ++ ys → Way s all a left → Written a xs b → Way s all b ys
 way_more s a b all left xs ys e way h =
     (omega (arith, way.0, ap length e, ap length h.holds, length-append (items a) xs, length-append xs ys, h.same_room), λ z k. way.1 z (subst (λ (l : L.List Line). Written a l z) (sym e) (written_then a b z xs ys h k)))
+
+-- what decode promises, told of equal parts
+pub decodes_as : {p q : Problem} {r s : Rule} {t u : ℕ} {bs : L.List ℕ} {a b : List Line} {x : Result Unit Refusal} → p ≡ q → r ≡ s → t ≡ u → Decodes p r t bs a x b → Decodes q s u bs a x b
+decodes_as {p} {q} {r} {s} {t} {u} {bs} {a} {b} {x} e k h d = subst (λ (y : Problem). Decodes y s u bs a x b) e (subst (λ (y : Rule). Decodes p y u bs a x b) k (subst (λ y. Decodes p r y bs a x b) h d))
 
 -- only a grant is numbered 0
 pub granted : {X : Type 0} (r : Result X Refusal) → answer r ≡ 0 → is_ok r ≡ true

@@ -1,6 +1,9 @@
 -- Decode's answer, test by test.
-use Rattle.std.proofs.Common.{◌≡◌, ℕ, ◌<◌, ◌≤◌, eqb, List, length, refl, ◌∙◌, inl, inr, arith}
+use Rattle.std.proofs.Common.{◌≡◌, ℕ, ◌<◌, ◌≤◌, eqb, List, length, Err, sym, refl, ◌∙◌, subst, inl, inr, arith}
 use Rattle.std.proofs.lemmas.List.{length-map}
+use Rattle.rules.specs.declared.line.Line.{Line}
+use Rattle.rules.specs.declared.refusal.Refusal.{Refusal}
+use Rattle.rules.specs.Refusals.{number}
 use Rattle.rules.specs.Checks.{Answers}
 use Rattle.rules.specs.Steps.{Rule}
 use Rattle.rules.specs.Problems.{Problem}
@@ -8,7 +11,10 @@ use Rattle.rules.specs.Clauses.{Model, Satisfies, value}
 use Rattle.rules.specs.Formula.{vars, formula}
 use Rattle.rules.specs.Sheets.{sheet_of}
 use Rattle.checking.specs.Told.{told, TruthBytes}
+use Rattle.memory.specs.declared.lent_list.List as lent_list
+use Rattle.memory.specs.Held.{room}
 use Rattle.decoding.specs.Decode.{decode_tests}
+use Rattle.decoding.specs.Added.{Decodes}
 
 module _ (p : Problem) (rule : Rule) (horizon : ℕ) (truth : List ℕ) (space : ℕ) where
   pub refuse_7 : 32 < horizon → Answers (decode_tests p rule horizon truth space) 7
@@ -37,3 +43,8 @@ model_of p rule horizon truth space n (inl (h, inl (b, inl (m, k)))) z = m
 model_of p rule horizon truth space n (inl (h, inl (b, inr k))) z = absurd (omega (arith, k.1))
 model_of p rule horizon truth space n (inl (h, inr k)) z = absurd (omega (arith, k.1))
 model_of p rule horizon truth space n (inr k) z = absurd (omega (arith, k.1))
+
+-- a horizon above 32 is refused by 7, and nothing changes
+pub decodes_not : (p : Problem) (rule : Rule) (horizon : ℕ) (truth : List ℕ) (a : lent_list.List Line) (e : Refusal) → number e ≡ 7 → 32 < horizon → Decodes p rule horizon truth a (Err e) a
+decodes_not p rule horizon truth a e k h =
+    record { answers = subst (λ n. Answers (decode_tests p rule horizon truth (room a)) n) (sym k) (refuse_7 p rule horizon truth (room a) h); holds = refl; rest = refl; same_room = refl; same_loan = refl }

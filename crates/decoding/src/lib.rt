@@ -3,6 +3,7 @@
 
 mod counting;
 mod reading;
+mod valuation;
 mod writing;
 
 pub use reading::decode;

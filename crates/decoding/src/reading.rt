@@ -13,11 +13,11 @@ ghost use Rattle.decoding.specs.Decode.{decode_tests, SheetOfModel};
 ghost use Rattle.decoding.specs.Round.{UndoesAssign};
 ghost use Rattle.decoding.specs.Added.{Decodes};
 
-use crate::counting::count_lines;
-use crate::writing::write_sheet;
+use crate::valuation::Valuation;
 use checking::meets_formula;
+use formula::Formula;
 use memory::List;
-use problem::{Problem, StepTable};
+use problem::Problem;
 use rules::{Line, Refusal};
 use steps::SlotRule;
 
@@ -27,37 +27,32 @@ const TRUE: u8 = 1;
 fn all_bits(truth: &[u8]) -> bool
     ensures answers_bits { MatchBool result (AllByRecursion (λ b. b ≤ 1) truth.now) (AllByRecursion (λ b. b ≤ 1) truth.now → ⊥) }
 {
-    for b in truth {
-        if *b > TRUE {
-            return false;
-        }
-    }
-    true
+    truth.iter().all(|b| *b <= TRUE)
 }
 
-fn decode_by<R: SlotRule>(
-    table: &StepTable,
-    horizon: usize,
-    rule: &R,
+// The same of a formula: everything but the horizon is still to be asked.
+fn decode_model<R: SlotRule>(
+    formula: &Formula<R>,
     truth: &[u8],
     sheet: &mut List<Line>,
 ) -> Result<(), Refusal>
-    ensures decodes { Decodes (means table.now) (R.SlotRule.parts rule.now) horizon truth.now sheet.old result sheet.new }
+    ensures decodes { Decodes (means formula.now.table) (R.SlotRule.parts formula.now.rule.now) formula.now.horizon truth.now sheet.old result sheet.new }
 {
-    if horizon > 32 {
-        return Err(Refusal::BadRequest);
-    }
-    let variables = horizon * (table.facts + table.steps) + table.facts;
-    if truth.len() != variables || !all_bits(truth) {
+    if truth.len() != formula.variables() || !all_bits(truth) {
         return Err(Refusal::BadTruthMemory);
     }
-    if !meets_formula(table, rule, horizon as u16, truth) {
+    if !meets_formula(formula, truth) {
         return Err(Refusal::NotAModel);
     }
-    if count_lines(table, truth, horizon) > sheet.capacity() {
+    let valuation = Valuation {
+        table: &formula.table,
+        horizon: formula.horizon,
+        truth,
+    };
+    if valuation.count_lines() > sheet.capacity() {
         return Err(Refusal::NoSpace);
     }
-    write_sheet(table, truth, horizon, sheet);
+    valuation.write_sheet(sheet);
     Ok(())
 }
 
@@ -77,5 +72,5 @@ pub fn decode<R: SlotRule>(
     ensures gives_a_sheet { is_ok result ≡ true → SheetOfModel (problem_of problem.now.bytes.now) (R.SlotRule.parts rule.now) horizon truth.now (items sheet.new) }
     ensures undoes_assign { UndoesAssign (problem_of problem.now.bytes.now) (R.SlotRule.parts rule.now) horizon (room sheet.old) }
 {
-    decode_by(&problem.table(), horizon, rule, truth, sheet)
+    decode_model(&Formula::of(problem, horizon, rule)?, truth, sheet)
 }

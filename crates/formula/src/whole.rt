@@ -12,9 +12,9 @@ use steps::SlotRule;
 // The formula of a problem, read into a table, for at most 32 slots that a rule allows.
 #[derive(Drop)]
 pub struct Formula<'a, R> {
-    pub(crate) table: StepTable,
-    pub(crate) rule: &'a R,
-    pub(crate) horizon: usize,
+    pub table: StepTable,
+    pub rule: &'a R,
+    pub horizon: usize,
     ghost few: { horizon ≤ 32 },
 }
 
@@ -31,13 +31,6 @@ impl<'a, R: SlotRule> Formula<'a, R> {
             rule,
             horizon,
         })
-    }
-
-    // The sets of its problem.
-    pub fn table(&self) -> &StepTable
-        ensures lends_table { result.now ≡ self.now.table }
-    {
-        &self.table
     }
 
     // V, how many variables there are.

@@ -8,16 +8,16 @@ use Rattle.checking.specs.Told.{told}
 use Rattle.decoding.specs.Added.{lines_from, slot_lines}
 use Rattle.decoding.proofs.Adding.{Way, way_more, written_none, added}
 use Rattle.decoding.proofs.Lines.{line, step_in, step_out}
-use Rattle.decoding.proofs.writing.write_slot.Goals as goal
-use Rattle.decoding.proofs.writing.write_slot.Goals.{then-has_step, else-has_step}
+use Rattle.decoding.proofs.valuation.Valuation.write_slot.Goals as goal
+use Rattle.decoding.proofs.valuation.Valuation.write_slot.Goals.{then-has_step, else-has_step}
 
 pub loop-a-preserved : goal.loop-a-preserved
 loop-a-preserved c =
-    let p = means c.args.table.now in
-    let w = value (told c.args.truth.now) in
+    let p = means c.args.self.now.table.now in
+    let w = value (told c.args.self.now.truth.now) in
     let u = c.args.u in
     let a = c.loop-a.a in
-    let end = c.args.table.now.steps + 1 in
+    let end = c.args.self.now.table.now.steps + 1 in
     let l : a < end = omega arith in
     let all = slot_lines p w u in
     let left = lines_from p w u a (end - a) in

@@ -4,7 +4,7 @@ use Rattle.problem.specs.Tables.{means}
 use Rattle.checking.specs.Told.{told}
 use Rattle.decoding.specs.Added.{lines_from, slot_lines}
 use Rattle.decoding.proofs.Adding.{Way}
-use Rattle.decoding.proofs.writing.write_slot.Given as goal
+use Rattle.decoding.proofs.valuation.Valuation.write_slot.Given as goal
 
 abbrev pub invariant-loop-a : goal.invariant-loop-a
-invariant-loop-a l = Way l.initial.sheet (slot_lines (means l.table) (value (told l.truth)) l.u) l.sheet (lines_from (means l.table) (value (told l.truth)) l.u l.a (l.a-end - l.a))
+invariant-loop-a l = Way l.initial.sheet (slot_lines (means l.self.table.now) (value (told l.self.truth.now)) l.u) l.sheet (lines_from (means l.self.table.now) (value (told l.self.truth.now)) l.u l.a (l.a-end - l.a))
