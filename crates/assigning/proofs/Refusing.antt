@@ -1,9 +1,11 @@
 -- Assign's answer, test by test, and the way back from decode.
-use Rattle.std.proofs.Common.{◌≡◌, ℕ, ◌≤◌, cond, eqb, List, [], ◌∷◌, sym, refl, ap, ◌∙◌, subst, inl, inr, ⊎_elim, arith}
+use Rattle.std.proofs.Common.{◌≡◌, ℕ, ◌<◌, ◌≤◌, cond, eqb, List, [], ◌∷◌, length, Err, Result, sym, refl, ap, ◌∙◌, subst, inl, inr, ⊎_elim, arith}
 use Rattle.std.specs.List.{AllByRecursion}
 use Rattle.std.proofs.lemmas.List.FromFn.{length-map-range_with_len}
 use Rattle.std.proofs.lemmas.Bool.{cases_eq, eq-eqb, ne_eqb}
 use Rattle.rules.specs.declared.line.Line.{Line}
+use Rattle.rules.specs.declared.refusal.Refusal.{Refusal}
+use Rattle.rules.specs.Refusals.{number}
 use Rattle.rules.specs.Checks.{Answers}
 use Rattle.rules.specs.Steps.{Rule}
 use Rattle.rules.specs.Problems.{Problem}
@@ -12,7 +14,7 @@ use Rattle.rules.specs.Formula.{vars, formula}
 use Rattle.rules.specs.Sheets.{Sheet, Holds, valued, model, sheet_of}
 use Rattle.rules.specs.Laws.{ModelsAreSheets}
 use Rattle.checking.specs.Told.{told, bytes_of}
-use Rattle.assigning.specs.Assign.{assign_tests}
+use Rattle.assigning.specs.Assign.{assign_tests, Assigns}
 use Rattle.assigning.specs.Returned.{UndoesDecode}
 
 module _ (p : Problem) (rule : Rule) (horizon : ℕ) (lines : List Line) (bytes : ℕ) (h : horizon ≤ 32) (long : bytes ≡ vars p horizon) (sheet : Sheet p horizon lines) where
@@ -48,3 +50,11 @@ module _ (p : Problem) (rule : Rule) (horizon : ℕ) (law : ModelsAreSheets p ru
   undoes_decode_lem truth space (inl (h, inl (b, inr k))) = absurd (omega (arith, k.1))
   undoes_decode_lem truth space (inl (h, inr k)) = absurd (omega (arith, k.1))
   undoes_decode_lem truth space (inr k) = absurd (omega (arith, k.1))
+
+-- what assign promises, told of equal parts
+pub assigns_as : {p q : Problem} {r s : Rule} {t u : ℕ} {ls : List Line} {before after : List ℕ} {x : Result Unit Refusal} → p ≡ q → r ≡ s → t ≡ u → Assigns p r t ls before x after → Assigns q s u ls before x after
+assigns_as {p} {q} {r} {s} {t} {u} {ls} {before} {after} {x} e k h d = subst (λ (y : Problem). Assigns y s u ls before x after) e (subst (λ (y : Rule). Assigns p y u ls before x after) k (subst (λ y. Assigns p r y ls before x after) h d))
+
+-- a horizon above 32 is refused by 7, and nothing changes
+pub assigns_not : (p : Problem) (rule : Rule) (horizon : ℕ) (lines : List Line) (before : List ℕ) (e : Refusal) → number e ≡ 7 → 32 < horizon → Assigns p rule horizon lines before (Err e) before
+assigns_not p rule horizon lines before e k h = record { answers = subst (λ n. Answers (assign_tests p rule horizon lines (length before)) n) (sym k) (inr (λ l. omega arith, refl)); writes = refl }

@@ -13,33 +13,30 @@ ghost use Rattle.assigning.specs.Returned.{UndoesDecode};
 use crate::building::build;
 use crate::lines::is_sheet;
 use checking::meets_formula;
-use problem::{Problem, StepTable};
+use formula::Formula;
+use problem::Problem;
 use rules::{Line, Refusal};
 use steps::SlotRule;
 
-fn assign_by<R: SlotRule>(
-    table: &StepTable,
-    horizon: usize,
-    rule: &R,
+// The same of a formula: everything but the horizon is still to be asked.
+fn assign_sheet<R: SlotRule>(
+    formula: &Formula<R>,
     lines: &[Line],
     truth: &mut [u8],
 ) -> Result<(), Refusal>
-    requires { Sound (means table.now) }
-    ensures assigns { Assigns (means table.now) (R.SlotRule.parts rule.now) horizon lines.now truth.old result truth.new }
+    requires sound { Sound (means formula.now.table) }
+    ensures assigns { Assigns (means formula.now.table) (R.SlotRule.parts formula.now.rule.now) formula.now.horizon lines.now truth.old result truth.new }
 {
-    if horizon > 32 {
-        return Err(Refusal::BadRequest);
-    }
-    let variables = horizon * (table.facts + table.steps) + table.facts;
+    let variables = formula.variables();
     if truth.len() != variables {
         return Err(Refusal::BadTruthMemory);
     }
-    if !is_sheet(table, horizon, lines) {
+    if !is_sheet(&formula.table, formula.horizon, lines) {
         return Err(Refusal::BadSheetLines);
     }
-    let bytes = build(table, horizon, lines);
-    let built = &bytes[0..variables];
-    if !meets_formula(table, rule, horizon as u16, built) {
+    let bytes = build(&formula.table, formula.horizon, lines);
+    let built = &bytes[..variables];
+    if !meets_formula(formula, built) {
         return Err(Refusal::SheetDoesNotHold);
     }
     truth.copy_from_slice(built);
@@ -58,5 +55,5 @@ pub fn assign<R: SlotRule>(
     ensures writes_the_model { truth.new ≡ (if is_ok result then bytes_of (model (problem_of problem.now.bytes.now) horizon lines.now) else truth.old) }
     ensures undoes_decode { UndoesDecode (problem_of problem.now.bytes.now) (R.SlotRule.parts rule.now) horizon }
 {
-    assign_by(&problem.table(), horizon, rule, lines, truth)
+    assign_sheet(&Formula::of(problem, horizon, rule)?, lines, truth)
 }
