@@ -1,8 +1,11 @@
 -- From the two numbers and the problem's verdict to what is printed.
-use Rattle.std.proofs.Common.{◌≡◌, ℕ, ◌-◌, ◌≤◌, Bool, true, false, cond, not, eqb, ltb, leb, List, length, take, drop, sym, refl, ap, ◌∙◌, arith}
+use Rattle.std.proofs.Common.{◌≡◌, ℕ, ◌-◌, ◌≤◌, Bool, true, false, cond, not, ◌||◌, eqb, ltb, leb, List, length, take, drop, sym, refl, ap, ◌∙◌, arith}
 use Rattle.std.proofs.lemmas.List.{take_rest}
-use Rattle.std.proofs.lemmas.Bool.{cond-true, cond-false, eq-eqb, ne_eqb, and_parts, leb-true}
+use Rattle.std.proofs.lemmas.Bool.{cond-true, cond-false, eq-eqb, ne_eqb, and_parts, and_right, leb-true, le-ltb}
 use Rattle.rules.specs.Steps.{Rule, single, parallel}
+use Rattle.steps.specs.declared.rule_name.RuleName.{RuleName}
+use Rattle.steps.specs.declared.rule_name.RuleName.TheVariants.{Single, Parallel}
+use Rattle.steps.specs.Named.{rule_named, number_of}
 use Rattle.problem.specs.Listed.{problem_of}
 use Rattle.problem.specs.Verdict.{verdict}
 use Rattle.requests.specs.Printed.{refused_line}
@@ -38,3 +41,16 @@ rule_1 n e = sym (cond-true (eqb n 1) single parallel (eq-eqb n 1 (sym e)))
 
 pub rule_2 : (n : ℕ) → 2 ≡ n → parallel ≡ rule_of n
 rule_2 n e = sym (cond-false (eqb n 1) single parallel (ne_eqb n 1 (λ z. let w : ◌≡◌ {A = ℕ} 2 1 = e ∙ z in omega arith)))
+
+-- a rule that there is not is refused by 7
+pub no_rule : (s : List ℕ) → 4 ≤ length s → length s ≤ 65536 → ((rule : RuleName) → number_of rule ≡ rule_number s → ⊥) → request_verdict s ≡ 7
+no_rule s l h ne =
+    let one : eqb (rule_number s) 1 ≡ false = ne_eqb (rule_number s) 1 (λ e. ne Single (sym e)) in
+    let two : eqb (rule_number s) 2 ≡ false = ne_eqb (rule_number s) 2 (λ e. ne Parallel (sym e)) in
+    let none : asked s ≡ false = and_right (leb (horizon s) 32) _ (ap (λ (b : Bool). b || eqb (rule_number s) 2) one ∙ two) in
+    cond-false (ltb (length s) 4) 1 _ (le-ltb (length s) 4 l) ∙ cond-false (ltb 65536 (length s)) 3 _ (le-ltb 65536 (length s) h) ∙ cond-true (not (asked s)) 7 0 (ap not none)
+
+-- a named rule is the one of its number
+pub named_of : (rule : RuleName) (n : ℕ) → number_of rule ≡ n → rule_named rule ≡ rule_of n
+named_of Single n e = rule_1 n e
+named_of Parallel n e = rule_2 n e

@@ -3,14 +3,8 @@ use Rattle.std.specs.Prelude.{◌≡◌, ℕ, List, Ok, Err, Result, ◌≢◌}
 use Rattle.rules.specs.declared.refusal.Refusal.{Refusal}
 use Rattle.rules.specs.Refusals.{number}
 use Rattle.requests.specs.declared.request.Request.{Request}
-use Rattle.requests.specs.declared.request.RuleName.{RuleName}
-use Rattle.requests.specs.declared.request.RuleName.TheVariants.{Single, Parallel}
+use Rattle.steps.specs.Named.{number_of}
 use Rattle.requests.specs.Written.{horizon, rule_number, request_verdict}
-
--- the rule's number
-abbrev pub number_of : RuleName → ℕ
-number_of Single = 1
-number_of Parallel = 2
 
 -- granted, T and the rule as they stand; refused, the first check that fails
 abbrev pub RequestChecked : List ℕ → Result Request Refusal → Type 0

@@ -7,6 +7,7 @@ mod request;
 mod writing;
 
 pub use lending::{encode_text, encode_words};
-pub use printing::{clause_text, refusal_number, refused_text};
-pub use request::{Request, RuleName};
+pub use printing::{clause_text, refused_text};
+pub use request::Request;
+pub use steps::RuleName;
 pub use writing::{read_request, write_request};

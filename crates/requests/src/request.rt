@@ -1,9 +1,4 @@
-// Which of the two rules is asked for.
-#[derive(Clone, Copy, PartialEq, Eq, Debug)]
-pub enum RuleName {
-    Single,
-    Parallel,
-}
+use steps::RuleName;
 
 // The two numbers before a problem.
 #[derive(Clone, Copy, PartialEq, Eq, Debug)]

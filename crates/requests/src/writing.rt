@@ -5,37 +5,35 @@ ghost use Rattle.requests.specs.Written.{problem_text, written};
 ghost use Rattle.requests.specs.Asked.{RequestChecked};
 
 use crate::printing::{clause_text, refused_text};
-use crate::request::{Request, RuleName};
+use crate::request::Request;
 use clauses::{Sink, Source};
 use formula::sizes;
 use planner::encode;
 use problem::{Problem, read_problem};
 use rules::Refusal;
 use std::alloc::{AllocError, Global};
-use steps::{Parallel, Single, SlotRule};
+use steps::{RuleName, SlotRule};
 use text::text_sink;
 
 // The two numbers before the problem: refused by 1 and 3 for the input's length, then by 7.
 pub fn read_request(input: &[u8]) -> Result<Request, Refusal>
     ensures checks_in_order { RequestChecked input.now result }
 {
-    if input.len() < 4 {
+    let [t_low, t_high, rule_low, rule_high, ..] = input else {
         return Err(Refusal::TooShort);
-    }
+    };
     if input.len() > 65536 {
         return Err(Refusal::WrongLength);
     }
-    let horizon = input[0] as usize + 256 * input[1] as usize;
-    let rule = input[2] as usize + 256 * input[3] as usize;
-    if horizon > 32 || rule < 1 || rule > 2 {
+    let horizon = u16::from_le_bytes([*t_low, *t_high]);
+    let rule = u16::from_le_bytes([*rule_low, *rule_high]);
+    if horizon > 32 {
         return Err(Refusal::BadRequest);
     }
-    let rule = if rule == 1 {
-        RuleName::Single
-    } else {
-        RuleName::Parallel
-    };
-    Ok(Request { horizon, rule })
+    Ok(Request {
+        horizon: usize::from(horizon),
+        rule: RuleName::try_from(rule)?,
+    })
 }
 
 // The text of the problem's clauses, or `refused 9` where the memory has no space for their lines.
@@ -46,7 +44,8 @@ fn write_problem<R: SlotRule>(
     rule: &R,
     memory: &mut [u8],
 ) -> Result<Vec<u8>, AllocError>
-    requires { (horizon ≤ 32) × (length memory.old ≡ 65536) }
+    requires few_slots { horizon ≤ 32 }
+    requires space { length memory.old ≡ 65536 }
     ensures prints_problem { IfOk result (λ out. out.items ≡ problem_text (problem_of problem.now.bytes.now) (R.SlotRule.parts rule.now) horizon) }
 {
     let mut sink = text_sink(memory);
@@ -72,14 +71,11 @@ pub fn write_request(heap: Global, input: &[u8]) -> Result<Vec<u8>, AllocError>
         return refused_text(heap, refusal);
     }
     let mut memory = vec![in heap; 0u8; 65536]?;
-    match request.rule {
-        RuleName::Single => write_problem(heap, &problem, request.horizon, &Single, &mut memory),
-        RuleName::Parallel => write_problem(
-            heap,
-            &problem,
-            request.horizon,
-            &Parallel,
-            &mut memory,
-        ),
-    }
+    write_problem(
+        heap,
+        &problem,
+        request.horizon,
+        &request.rule,
+        &mut memory,
+    )
 }

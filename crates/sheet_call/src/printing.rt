@@ -9,10 +9,8 @@ use std::alloc::{AllocError, Global};
 fn push_line(heap: Global, out: &mut Vec<u8>, line: Line) -> Result<(), AllocError>
     ensures appends_line { OnOk result (out.new.items ≡ out.old.items ++ line_text_of line) }
 {
-    let (slot, step) = (line.slot, line.step);
-    let text = format!(in heap; "{slot} {step}\n")?;
-    let bytes = text.into_bytes();
-    out.extend_from_slice(&bytes)
+    let text = format!(in heap; "{line}\n")?;
+    out.extend_from_slice(text.as_bytes())
 }
 
 // The lines of a sheet, one after another.
@@ -20,8 +18,8 @@ pub fn sheet_text(heap: Global, lines: &[Line]) -> Result<Vec<u8>, AllocError>
     ensures prints_lines { IfOk result (λ out. out.items ≡ sheet_text_of lines.now) }
 {
     let mut out = Vec::new(heap);
-    for i in 0..lines.len() {
-        push_line(heap, &mut out, lines[i])?;
+    for line in lines {
+        push_line(heap, &mut out, *line)?;
     }
     Ok(out)
 }

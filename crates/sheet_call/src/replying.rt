@@ -11,10 +11,10 @@ use decoding::decode;
 use formula::sizes;
 use memory::List;
 use problem::{Problem, read_problem};
-use requests::{RuleName, read_request, refused_text};
+use requests::{read_request, refused_text};
 use rules::Line;
 use std::alloc::{AllocError, Global};
-use steps::{Parallel, Single, SlotRule};
+use steps::SlotRule;
 
 // No sheet has more: 32 slots of 128 steps.
 const MOST_LINES: usize = 4096;
@@ -24,11 +24,11 @@ fn problem_end(bytes: &[u8]) -> usize
     ensures ends_problem { result ≡ problem_length bytes.now }
     ensures within { result ≤ length bytes.now }
 {
-    if bytes.len() < 6 {
+    let [_, _, _, _, low, high, ..] = bytes else {
         return bytes.len();
-    }
-    let end = 6 + 4 * (bytes[4] as usize + 256 * bytes[5] as usize);
-    if end < bytes.len() { end } else { bytes.len() }
+    };
+    let pairs = usize::from(u16::from_le_bytes([*low, *high]));
+    bytes.len().min(6 + 4 * pairs)
 }
 
 // The sheet of a model, or `refused 15`.
@@ -39,7 +39,8 @@ fn print_model<R: SlotRule>(
     rule: &R,
     truth: &[u8],
 ) -> Result<Vec<u8>, AllocError>
-    requires { (horizon ≤ 32) × (TruthBytes (vars (problem_of problem.now.bytes.now) horizon) truth.now) }
+    requires few_slots { horizon ≤ 32 }
+    requires truth_bytes { TruthBytes (vars (problem_of problem.now.bytes.now) horizon) truth.now }
     ensures prints_model { IfOk result (λ out. SheetPrinted (problem_of problem.now.bytes.now) (R.SlotRule.parts rule.now) horizon (told truth.now) out.items ⊎ NoModel (problem_of problem.now.bytes.now) (R.SlotRule.parts rule.now) horizon (told truth.now) out.items) }
 {
     let mut memory = vec![in heap; Line { slot: 0, step: 0 }; MOST_LINES]?;
@@ -59,7 +60,8 @@ fn print_answer<R: SlotRule>(
     answer: &[u8],
     truth: &mut [u8],
 ) -> Result<Vec<u8>, AllocError>
-    requires { (horizon ≤ 32) × (length truth.old ≡ vars (problem_of problem.now.bytes.now) horizon) }
+    requires few_slots { horizon ≤ 32 }
+    requires long { length truth.old ≡ vars (problem_of problem.now.bytes.now) horizon }
     ensures prints_answer { IfOk result (λ out. Replied (problem_of problem.now.bytes.now) (R.SlotRule.parts rule.now) horizon answer.now out.items ⊎ NoReply (problem_of problem.now.bytes.now) horizon answer.now out.items) }
 {
     match read_answer(answer, truth.len(), truth) {
@@ -77,7 +79,7 @@ fn print_reply<R: SlotRule>(
     rule: &R,
     answer: &[u8],
 ) -> Result<Vec<u8>, AllocError>
-    requires { horizon ≤ 32 }
+    requires few_slots { horizon ≤ 32 }
     ensures prints_reply { IfOk result (λ out. Replied (problem_of problem.now.bytes.now) (R.SlotRule.parts rule.now) horizon answer.now out.items ⊎ NoReply (problem_of problem.now.bytes.now) horizon answer.now out.items) }
 {
     match sizes(problem, horizon, rule) {
@@ -104,8 +106,11 @@ pub fn sheet_request(heap: Global, input: &[u8]) -> Result<Vec<u8>, AllocError>
         return refused_text(heap, refusal);
     }
     let answer = &rest[end..];
-    match request.rule {
-        RuleName::Single => print_reply(heap, &problem, request.horizon, &Single, answer),
-        RuleName::Parallel => print_reply(heap, &problem, request.horizon, &Parallel, answer),
-    }
+    print_reply(
+        heap,
+        &problem,
+        request.horizon,
+        &request.rule,
+        answer,
+    )
 }

@@ -14,8 +14,8 @@ returns-in-Err g c =
     let rule = g.R.SlotRule.parts c.args.rule.now in
     let t = c.args.horizon in
     let p = problem_of s in
-    let first = text_refusal p head.1 head.2 rule t c.requires.0 (parse (numbers (take c.text_sink-sink.result.used c.text_sink-sink.result.bytes.now))) (length c.text_sink-sink.result.bytes.now) c.text_sink-sink.ensures.holds_nothing (c.text_sink-sink.ensures.capacity_given ∙ c.requires.1) in
-    let is = text_refused p head.1 head.2 rule t c.requires.0 c.in-Err.refusal (c.in-Err.ensures.refuses_in_order ∙ first) in
+    let first = text_refusal p head.1 head.2 rule t c.requires.few_slots (parse (numbers (take c.text_sink-sink.result.used c.text_sink-sink.result.bytes.now))) (length c.text_sink-sink.result.bytes.now) c.text_sink-sink.ensures.holds_nothing (c.text_sink-sink.ensures.capacity_given ∙ c.requires.space) in
+    let is = text_refused p head.1 head.2 rule t c.requires.few_slots c.in-Err.refusal (c.in-Err.ensures.refuses_in_order ∙ first) in
     record { prints_problem = subst (λ (xs : List ℕ). IfOk c.refused_text.result (λ out. vec_items out ≡ xs)) is c.refused_text.ensures.prints_refusal }
 
 pub returns-in-Ok : goal.returns-in-Ok
@@ -25,8 +25,8 @@ returns-in-Ok g c =
     let rule = g.R.SlotRule.parts c.args.rule.now in
     let t = c.args.horizon in
     let p = problem_of s in
-    let first = text_refusal p head.1 head.2 rule t c.requires.0 (parse (numbers (take c.text_sink-sink.result.used c.text_sink-sink.result.bytes.now))) (length c.text_sink-sink.result.bytes.now) c.text_sink-sink.ensures.holds_nothing (c.text_sink-sink.ensures.capacity_given ∙ c.requires.1) in
+    let first = text_refusal p head.1 head.2 rule t c.requires.few_slots (parse (numbers (take c.text_sink-sink.result.used c.text_sink-sink.result.bytes.now))) (length c.text_sink-sink.result.bytes.now) c.text_sink-sink.ensures.holds_nothing (c.text_sink-sink.ensures.capacity_given ∙ c.requires.space) in
     let sized = c.in-Ok.ensures.answers_sizes.1 in
     let lines = c.text.ensures.lends_lines ∙ ap lines_text c.in_default.ensures.holds_the_formula in
-    let is = text_granted p head.1 head.2 rule t c.requires.0 c.in-Ok.variables c.in-Ok.clauses c.text.result.now (c.in_default.ensures.refuses_in_order ∙ first) sized.variables sized.clauses lines in
+    let is = text_granted p head.1 head.2 rule t c.requires.few_slots c.in-Ok.variables c.in-Ok.clauses c.text.result.now (c.in_default.ensures.refuses_in_order ∙ first) sized.variables sized.clauses lines in
     record { prints_problem = subst (λ (xs : List ℕ). IfOk c.clause_text.result (λ out. vec_items out ≡ xs)) is c.clause_text.ensures.prints_head_and_lines }

@@ -1,8 +1,7 @@
 use Rattle.std.proofs.Common.{◌≡◌, ℕ, ◌≤◌, List, IfOk as made, vec_items, sym, ap, ◌∙◌, subst, arith, rules}
-use Rattle.rules.specs.Steps.{single, parallel}
+use Rattle.steps.specs.Named.{rule_named}
 use Rattle.problem.proofs.Refused.{refused}
-use Rattle.requests.specs.Asked.{number_of}
-use Rattle.requests.proofs.Asking.{few_slots, bad_problem, good_problem, rule_1, rule_2}
+use Rattle.requests.proofs.Asking.{few_slots, bad_problem, good_problem, named_of}
 use Rattle.requests.proofs.writing.write_request.Goals as goal
 
 pub returns-in-Err-read_problem : goal.returns-in-Err-read_problem
@@ -16,25 +15,12 @@ write_problem-requires c =
     let asked = c.in-Ok.ensures.checks_in_order in
     let few : c.in-Ok.request.horizon ≤ 32 = omega (arith, few_slots c.args.input.now asked.0, asked.1) in
     let made = c.in_ok-memory.ensures in
-    (few, search rules)
-
-pub write_problem-requires-in-Parallel : goal.write_problem-requires-in-Parallel
-write_problem-requires-in-Parallel c =
-    let asked = c.in-Ok.ensures.checks_in_order in
-    let few : c.in-Ok.request.horizon ≤ 32 = omega (arith, few_slots c.args.input.now asked.0, asked.1) in
-    let made = c.in_ok-memory.ensures in
-    (few, search rules)
-
-pub returns-in-Single : goal.returns-in-Single
-returns-in-Single c =
-    let asked = c.in-Ok.ensures.checks_in_order in
-    let read = c.in_default.ensures in
-    let is = good_problem c.args.input.now single c.in-Ok.request.horizon c.read_problem.new.problem.bytes.now asked.0 read.filled_or_kept read.first_broken_rule (rule_1 _ (ap number_of (sym c.in-Single.is) ∙ asked.2)) asked.1 in
-    record { prints_written = subst (λ (xs : List ℕ). made c.write_problem.result (λ out. vec_items out ≡ xs)) is c.write_problem.ensures.prints_problem }
+    record { few_slots = few; space = search rules }
 
 pub returns : goal.returns
 returns c =
     let asked = c.in-Ok.ensures.checks_in_order in
     let read = c.in_default.ensures in
-    let is = good_problem c.args.input.now parallel c.in-Ok.request.horizon c.read_problem.new.problem.bytes.now asked.0 read.filled_or_kept read.first_broken_rule (rule_2 _ (ap number_of (sym c.in-Parallel.is) ∙ asked.2)) asked.1 in
-    record { prints_written = subst (λ (xs : List ℕ). made c.write_problem-in-Parallel.result (λ out. vec_items out ≡ xs)) is c.write_problem-in-Parallel.ensures.prints_problem }
+    let q = c.in-Ok.request in
+    let is = good_problem c.args.input.now (rule_named q.rule) q.horizon c.read_problem.new.problem.bytes.now asked.0 read.filled_or_kept read.first_broken_rule (named_of q.rule _ asked.2) asked.1 in
+    record { prints_written = subst (λ (xs : List ℕ). made c.write_problem.result (λ out. vec_items out ≡ xs)) is c.write_problem.ensures.prints_problem }

@@ -17,10 +17,10 @@ returns-in-Err g c =
     let t = c.args.horizon in
     let truth = c.args.truth.now in
     let head = lawful_head s c.args.problem.now.lawful in
-    let short = sheet_short p t (value (told truth)) c.requires.0 head.2 in
+    let short = sheet_short p t (value (told truth)) c.requires.few_slots head.2 in
     let long : length c.deref_mut.result.now ≡ 4096 = search rules in
     let space : room c.new-sheet.result ≡ 4096 = omega (arith, c.new-sheet.ensures.has_room, long) in
-    let only = only_15 p rule t truth (room c.new-sheet.result) c.in-Err.refusal c.requires.0 c.requires.1 (omega (arith, short, space)) c.in-Err.ensures.refuses_in_order in
+    let only = only_15 p rule t truth (room c.new-sheet.result) c.in-Err.refusal c.requires.few_slots c.requires.truth_bytes (omega (arith, short, space)) c.in-Err.ensures.refuses_in_order in
     record { prints_model = made_so c.refused_text.result _ _ (λ out e. inr (record { none = only.0; text = e ∙ ap refused_line only.1 })) c.refused_text.ensures.prints_refusal }
 
 pub returns : goal.returns
