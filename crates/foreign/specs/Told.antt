@@ -16,10 +16,17 @@ use Rattle.problem.specs.Verdict.{verdict}
 use Rattle.planner.specs.Encoded.{encode_checks}
 use Rattle.requests.specs.Written.{rule_of}
 
+-- what a granted call answers is told by t, and a refusal as minus its number
+abbrev pub told_by : {T : Type 0} → (T → ℤ) → Result T Refusal → ℤ
+told_by t (Ok x) = t x
+told_by t (Err e) = neg_ℤ (pos (number e))
+
 -- a count past 2^47 - 1 is told as that
+abbrev pub used_told : ℕ → ℤ
+used_told n = pos (min n 140737488355327)
+
 abbrev pub told_of : Result ℕ Refusal → ℤ
-told_of (Ok n) = pos (min n 140737488355327)
-told_of (Err e) = neg_ℤ (pos (number e))
+told_of = told_by used_told
 
 -- the problem first, then the rule's number, then encode's own checks
 abbrev pub call_verdict : List ℕ → ℕ → ℕ → ℕ → ℕ → (Clause → ℕ) → ℕ
@@ -46,20 +53,24 @@ pub record TestsCalled {X Y : Type 0} (tests : Tests) (tell : Result Y Refusal �
   pub whole_memory : after call memory
 
 -- 0 where the call grants
+abbrev pub nothing_told : Unit {0} → ℤ
+nothing_told u = pos 0
+
 abbrev pub done_told : Result Unit Refusal → ℤ
-done_told (Ok u) = pos 0
-done_told (Err e) = neg_ℤ (pos (number e))
+done_told = told_by nothing_told
 
 -- granted, the truth bytes are those of the sheet's model; refused, they are as they were
 abbrev pub truth_after : Problem → ℕ → List Line → List ℕ → Result Unit Refusal → List ℕ → Type 0
 truth_after p t lines before (Ok u) after = after ≡ bytes_of (model p t lines)
 truth_after p t lines before (Err e) after = after ≡ before
 
+abbrev pub status_number : Status → ℤ
+status_number Satisfiable = pos 1
+status_number Unsatisfiable = pos 2
+status_number Unknown = pos 3
+
 abbrev pub status_told : Result Status Refusal → ℤ
-status_told (Ok Satisfiable) = pos 1
-status_told (Ok Unsatisfiable) = pos 2
-status_told (Ok Unknown) = pos 3
-status_told (Err e) = neg_ℤ (pos (number e))
+status_told = told_by status_number
 
 -- the answer r is that of reading this text
 pub record AnswerCalled (variables : ℕ) (text before after : List ℕ) (r : ℤ) : Type 0 where

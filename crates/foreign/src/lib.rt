@@ -8,26 +8,17 @@ ghost use Rattle.clauses.specs.Rows.{word_cost};
 ghost use Rattle.text.specs.Lines.{text_cost};
 ghost use Rattle.requests.specs.Written.{rule_of};
 ghost use Rattle.requests.specs.Lent.{words_after, text_after};
-ghost use Rattle.foreign.specs.Told.{told_of, call_verdict, Called};
+ghost use Rattle.foreign.specs.Told.{call_verdict, Called};
 
 mod sheets;
 mod telling;
 
 use problem::{Problem, read_problem};
-use requests::{encode_text, encode_words, refusal_number};
+use requests::{encode_text, encode_words};
 use rules::Refusal;
 pub use sheets::{cabinmedlar_assign, cabinmedlar_decode, cabinmedlar_read_answer};
-use steps::{Parallel, Single};
-
-// What was used, or minus the refusal's number.
-pub(crate) fn told(answer: Result<usize, Refusal>) -> i64
-    ensures tells { result ≡ told_of answer }
-{
-    match answer {
-        Ok(used) => used.min(0x7fff_ffff_ffff) as i64,
-        Err(refusal) => -(refusal_number(refusal) as i64),
-    }
-}
+use steps::RuleName;
+use telling::tell;
 
 fn words_by_number(
     problem: &[u8],
@@ -40,11 +31,8 @@ fn words_by_number(
 {
     let mut held = Problem::new();
     read_problem(&mut held, problem)?;
-    match rule {
-        1 => encode_words(&held, horizon as usize, &Single, words),
-        2 => encode_words(&held, horizon as usize, &Parallel, words),
-        _ => Err(Refusal::BadRequest),
-    }
+    let rule = RuleName::try_from(rule)?;
+    encode_words(&held, horizon as usize, &rule, words)
 }
 
 fn text_by_number(
@@ -58,11 +46,8 @@ fn text_by_number(
 {
     let mut held = Problem::new();
     read_problem(&mut held, problem)?;
-    match rule {
-        1 => encode_text(&held, horizon as usize, &Single, text),
-        2 => encode_text(&held, horizon as usize, &Parallel, text),
-        _ => Err(Refusal::BadRequest),
-    }
+    let rule = RuleName::try_from(rule)?;
+    encode_text(&held, horizon as usize, &rule, text)
 }
 
 // The problem's formula into words.
@@ -75,7 +60,7 @@ pub extern "C" fn cabinmedlar_encode_words(
 ) -> i64
     ensures tells_the_call { Called (call_verdict problem.now horizon rule 4096 (length words.old) word_cost) (words_after (problem_of problem.now) (rule_of rule) horizon words.old) words.new result }
 {
-    told(words_by_number(problem, horizon, rule, words))
+    tell(words_by_number(problem, horizon, rule, words))
 }
 
 // The problem's formula into clause lines.
@@ -88,5 +73,5 @@ pub extern "C" fn cabinmedlar_encode_text(
 ) -> i64
     ensures tells_the_call { Called (call_verdict problem.now horizon rule 999999 (length text.old) text_cost) (text_after (problem_of problem.now) (rule_of rule) horizon text.old) text.new result }
 {
-    told(text_by_number(problem, horizon, rule, text))
+    tell(text_by_number(problem, horizon, rule, text))
 }

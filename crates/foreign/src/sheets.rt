@@ -9,14 +9,13 @@ ghost use Rattle.lending.specs.Lent.{lines_after};
 ghost use Rattle.requests.specs.Written.{rule_of};
 ghost use Rattle.foreign.specs.Told.{by_number, told_of, done_told, TestsCalled, truth_after, AnswerCalled};
 
-use crate::telling::{done, status};
-use crate::told;
+use crate::telling::tell;
 use answers::read_answer;
 use assigning::assign;
 use lending::decode_lines;
 use problem::{Problem, read_problem};
 use rules::{Line, Refusal};
-use steps::{Parallel, Single};
+use steps::RuleName;
 
 fn decode_by_number(
     problem: &[u8],
@@ -30,11 +29,8 @@ fn decode_by_number(
 {
     let mut held = Problem::new();
     read_problem(&mut held, problem)?;
-    match rule {
-        1 => decode_lines(&held, horizon as usize, &Single, truth, lines),
-        2 => decode_lines(&held, horizon as usize, &Parallel, truth, lines),
-        _ => Err(Refusal::BadRequest),
-    }
+    let rule = RuleName::try_from(rule)?;
+    decode_lines(&held, horizon as usize, &rule, truth, lines)
 }
 
 fn assign_by_number(
@@ -49,11 +45,8 @@ fn assign_by_number(
 {
     let mut held = Problem::new();
     read_problem(&mut held, problem)?;
-    match rule {
-        1 => assign(&held, horizon as usize, &Single, lines, truth),
-        2 => assign(&held, horizon as usize, &Parallel, lines, truth),
-        _ => Err(Refusal::BadRequest),
-    }
+    let rule = RuleName::try_from(rule)?;
+    assign(&held, horizon as usize, &rule, lines, truth)
 }
 
 // The solver's answer into truth bytes: 1 satisfiable, 2 unsatisfiable, 3 unknown.
@@ -61,7 +54,7 @@ fn assign_by_number(
 pub extern "C" fn cabinmedlar_read_answer(text: &[u8], variables: usize, truth: &mut [u8]) -> i64
     ensures tells_the_answer { AnswerCalled variables text.now truth.old truth.new result }
 {
-    status(read_answer(text, variables, truth))
+    tell(read_answer(text, variables, truth))
 }
 
 // The sheet of a model into lines; tells how many.
@@ -75,7 +68,7 @@ pub extern "C" fn cabinmedlar_decode(
 ) -> i64
     ensures tells_the_call { TestsCalled (by_number problem.now rule (decode_tests (problem_of problem.now) (rule_of rule) horizon truth.now (min (length lines.old) 1048576))) told_of (lines_after (problem_of problem.now) horizon truth.now lines.old) lines.new result }
 {
-    told(decode_by_number(problem, horizon, rule, truth, lines))
+    tell(decode_by_number(problem, horizon, rule, truth, lines))
 }
 
 // The model of a sheet that holds into truth bytes.
@@ -89,5 +82,5 @@ pub extern "C" fn cabinmedlar_assign(
 ) -> i64
     ensures tells_the_call { TestsCalled (by_number problem.now rule (assign_tests (problem_of problem.now) (rule_of rule) horizon lines.now (length truth.old))) done_told (truth_after (problem_of problem.now) horizon lines.now truth.old) truth.new result }
 {
-    done(assign_by_number(problem, horizon, rule, lines, truth))
+    tell(assign_by_number(problem, horizon, rule, lines, truth))
 }
