@@ -1,14 +1,14 @@
 -- The sets by code, one pair more at a time, and what the whole table lists.
-use Rattle.std.proofs.Common.{◌≡◌, ℕ, zero, suc, ◌+◌, ◌-◌, ◌*◌, ◌<◌, ◌≤◌, Bool, true, false, ◌&&◌, ◌||◌, eqb, leb, List, [], get_or, set, replicate, sym, refl, ap, ◌∙◌, ⊎_elim, add-one, arith}
+use Rattle.std.proofs.Common.{◌≡◌, ℕ, zero, suc, ◌+◌, ◌*◌, ◌<◌, ◌≤◌, Bool, false, ◌&&◌, ◌||◌, eqb, leb, List, [], get_or, set, replicate, sym, refl, ap, ◌∙◌, ⊎_elim, add-one, arith}
 use Rattle.std.proofs.lemmas.List.{get_or-replicate, length-replicate, length-set, get_or-set_same, get_or-set_other}
-use Rattle.std.proofs.lemmas.Bool.{cases_eq, or_left, eq-eqb, ne_eqb, le-leb, and_from, and_left}
+use Rattle.std.proofs.lemmas.Bool.{cases_eq}
 use Rattle.std.proofs.lemmas.Bool.Decides.{nat_tests}
 use Rattle.std.specs.List.{range_with_len, list_any}
 use Rattle.rules.specs.Lists.{any, has, shares}
 use Rattle.steps.specs.declared.fact_set.FactSet.{FactSet}
 use Rattle.steps.specs.Sets.{bit, facts_in}
 use Rattle.steps.proofs.Kept.{has_bit, kept_same, kept_shorter}
-use Rattle.problem.specs.Bytes.{facts, steps, pairs, code, fact, Sized}
+use Rattle.problem.specs.Bytes.{facts, pairs, code, fact, Sized}
 use Rattle.problem.specs.Listed.{among, has_pair, listed}
 use Rattle.problem.specs.Verdict.{scan, clashes}
 use Rattle.problem.specs.Collected.{empty_set, Collects}

@@ -1,7 +1,7 @@
 -- What a verdict of 0 says.
-use Rattle.std.proofs.Common.{◌≡◌, ℕ, zero, suc, ◌+◌, ◌-◌, ◌*◌, ◌%◌, ◌<◌, ◌≤◌, Bool, true, false, cond, not, eqb, ltb, ◌⊎◌, List, length, sym, refl, ap, ◌∙◌, subst, inl, inr, ⊎_elim, arith}
+use Rattle.std.proofs.Common.{◌≡◌, ℕ, zero, suc, ◌+◌, ◌-◌, ◌*◌, ◌%◌, ◌<◌, ◌≤◌, Bool, true, false, cond, ◌⊎◌, List, length, sym, ap, ◌∙◌, subst, inl, inr, ⊎_elim, arith}
 use Rattle.std.specs.List.{range_with_len}
-use Rattle.std.proofs.lemmas.Bool.{cond-true, cond-false, eq-eqb, ne_eqb, cases_eq, cases_lt, and_parts, or_cases, leb-true, ltb-true, eqb-true, eqb-false, not-true, not-false, not_from_false, not_from_true, both_ways}
+use Rattle.std.proofs.lemmas.Bool.{cases_lt, or_cases, eqb-true, both_ways}
 use Rattle.std.proofs.lemmas.Bool.Decides.{nat_tests}
 use Rattle.rules.specs.Lists.{In, any, has}
 use Rattle.rules.specs.Problems.{Sound}
@@ -10,7 +10,7 @@ use Rattle.rules.proofs.Members.{in_counting, kept_in}
 use Rattle.problem.specs.Bytes.{facts, steps, pairs, code, fact}
 use Rattle.problem.specs.Listed.{has_pair, listed, problem_of}
 use Rattle.problem.specs.Verdict.{headed, known, below, rises, pair_verdict, scan, clashes, verdict}
-use Rattle.problem.proofs.Scans.{none_among, NotAt}
+use Rattle.problem.proofs.Scans.{none_among}
 
 -- each test of a verdict of 0
 pub record Passed (s : List ℕ) : Type 0 where

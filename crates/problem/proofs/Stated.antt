@@ -3,7 +3,6 @@ use Rattle.std.proofs.Common.{◌≡◌, ℕ, ◌+◌, ◌*◌, ◌<◌, ◌≤�
 use mathlib.Core.Path.{fun_ext}
 use Rattle.std.proofs.lemmas.Bool.{cases_lt}
 use Rattle.rules.specs.Lists.{has}
-use Rattle.rules.specs.Problems.{Problem}
 use Rattle.steps.specs.declared.fact_set.FactSet.{FactSet}
 use Rattle.problem.specs.Bytes.{facts, steps, pairs}
 use Rattle.problem.specs.Listed.{listed, problem_of}

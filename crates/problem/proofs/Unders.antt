@@ -1,9 +1,8 @@
 -- What a table lists under a code.
 use Rattle.std.proofs.Common.{◌≡◌, ℕ, ◌+◌, ◌*◌, ◌<◌, ◌≤◌, List, [], length, sym, refl, ap, ◌∙◌, arith}
 use Rattle.std.proofs.lemmas.List.{get_or_past}
-use Rattle.rules.specs.Problems.{step}
 use Rattle.steps.specs.declared.fact_set.FactSet.{FactSet}
-use Rattle.steps.specs.Sets.{facts_in, meaning}
+use Rattle.steps.specs.Sets.{facts_in}
 use Rattle.problem.specs.declared.part.Part.{Part}
 use Rattle.problem.specs.declared.part.Part.TheVariants.{Needs, Sets, Clears}
 use Rattle.problem.specs.declared.table.StepTable.{StepTable}

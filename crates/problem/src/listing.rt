@@ -67,6 +67,7 @@ impl<'a> Listing<'a> {
         Ok(listing)
     }
 
+    // Pair i. It is read by its place, since codes and facts stand in two arrays.
     fn pair(&self, i: usize) -> Pair
         requires below { i < self.now.pairs }
         ensures has_code { result.code ≡ code_at self.now.bytes.now i }

@@ -103,3 +103,11 @@ impl<'a> Problem<'a> {
         Some(self.table().step(a))
     }
 }
+
+impl<'a> Default for Problem<'a> {
+    ghost is_default = { λ problem. problem.bytes.now ≡ fresh };
+
+    fn default() -> Problem<'a> {
+        Problem::new()
+    }
+}

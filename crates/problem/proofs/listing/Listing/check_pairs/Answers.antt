@@ -11,6 +11,3 @@ returns-in_err-check_pair c =
     let p = err_from_is_err_and c.from_residual.result c.from_residual.ensures.1 in
     let here = c.in_err-check_pair.ensures.first_broken ∙ sym (scan_more s c.loop-i.i c.loop-i.invariant) in
     record { first_broken = rw (p.1, p.2) (here ∙ sym (scan_stays s (c.loop-i.i + 1) c.args.self.now.pairs (omega arith) (λ z. refused _ (here ∙ z)))) }
-
-pub loop-i-preserved : goal.loop-i-preserved
-loop-i-preserved c = scan_more c.args.self.now.bytes.now c.loop-i.i c.loop-i.invariant ∙ sym c.in_ok-check_pair.ensures.first_broken
