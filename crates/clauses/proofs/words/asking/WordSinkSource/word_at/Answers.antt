@@ -18,6 +18,7 @@ returns-then-place-self c =
           subst (λ (z : ℤ). Word z (parse (drop i (take s.used ws))) (parse (drop (i + 1) (take s.used ws))))
           (get_or-take s.used ws i (pos 0) c.if-place-self.true ∙ sym (to_z-of_z w32 (get_or ws i (pos 0)) f))
           (reads_row (take s.used ws) i s.closed l);
+      goes_on = (omega arith, omega arith);
     }
 
 pub returns-else-place-self : goal.returns-else-place-self
@@ -27,4 +28,5 @@ returns-else-place-self c =
     record {
       reads_word =
           at_drop_all parse (take s.used ws) c.args.place (omega (arith, length-take-le s.used ws s.within));
+      goes_on = tt;
     }
