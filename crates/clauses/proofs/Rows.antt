@@ -1,11 +1,12 @@
 -- What `parse` gives of rows that are joined or walked.
-use Rattle.std.proofs.Common.{◌≡◌, ℕ, zero, suc, ◌+◌, ◌-◌, ◌<◌, ◌≤◌, Bool, true, false, ltb, List, [], ◌∷◌, ◌++◌, length, get_or, take, drop, set, ℤ, pos, negsuc, Some, None, Option, sym, refl, ap, ◌∙◌, subst, arith, w32, SFits, of_z}
-use Rattle.std.proofs.lemmas.Int.{ints}
+use Rattle.std.proofs.Common.{◌≡◌, ℕ, zero, suc, ◌+◌, ◌-◌, ◌<◌, ◌≤◌, Bool, true, false, ltb, List, [], ◌∷◌, ◌++◌, length, get_or, take, drop, set, ℤ, pos, negsuc, sym, refl, ap, ◌∙◌, subst, arith}
 use Rattle.std.proofs.lemmas.Bool.{false≢true, true≢false, or_parts, cond-false}
-use Rattle.std.proofs.lemmas.List.{at_drop_more, at_drop_all, length-take-le, take_more_set, take_more, take_all, append_assoc, length-drop, length-append, get_or-take, get_or-drop, drop_more}
+use Rattle.std.proofs.lemmas.List.{length-take-le, take_more_set, append_assoc, length-append, length-set, drop-set-lt, drop_more}
+use Rattle.std.proofs.lemmas.Grind.{common_steps}
+use Rattle.std.proofs.lemmas.Slice.{take-put_mid, drop-put_mid}
+use borrow.Rule.Slice.PartMut.{put_mid}
 use Rattle.rules.specs.Lists.{any}
 use Rattle.rules.specs.Clauses.{Clause, bad_literal, bad_clause, total}
-use Rattle.clauses.specs.Asked.{at0, length_of}
 use Rattle.clauses.specs.Walk.{onto, some_clause, Word}
 use Rattle.clauses.specs.Rows.{flat, parse, is_zero, ends, word_cost}
 
@@ -79,25 +80,37 @@ count_le (negsuc n ∷ xs) = omega (arith, count_le xs, length_onto (negsuc n) (
 pub spent : (ws : List ℤ) (used : ℕ) → used ≤ length ws → ends true (take used ws) ≡ true → any (bad_clause 4096) (parse (take used ws)) ≡ false → total word_cost (parse (take used ws)) ≡ used
 spent ws used h e g = total_flat (parse (take used ws)) g ∙ ap length (flat_parse true (take used ws) e) ∙ length-take-le used ws h
 
--- one more item is written after a row
-pub put_step : {X : Type 0} (ws₀ ws c : List X) (at i : ℕ) (d y : X) → take (at + i) ws ≡ take at ws₀ ++ take i c → at + i < length ws → i < length c → y ≡ get_or c i d → take (at + (i + 1)) (set ws (at + i) y) ≡ take at ws₀ ++ take (i + 1) c
-put_step ws₀ ws c at i d y inv l h e =
-    let a : at + (i + 1) ≡ at + i + 1 = omega arith in
-    ap (λ n. take n (set ws (at + i) y)) a
-    ∙ take_more_set ws (at + i) y l
-    ∙ ap (λ xs. xs ++ (y ∷ [])) inv
-    ∙ append_assoc (take at ws₀) (take i c) (y ∷ [])
-    ∙ ap (λ z. take at ws₀ ++ (take i c ++ (z ∷ []))) e
-    ∙ ap (λ xs. take at ws₀ ++ xs) (sym (take_more c i d h))
+-- a clause and its 0 are written after the words in use
+pub record Put (used : ℕ) (ws c rs : List ℤ) : Type 0 where
+  pub long : length rs ≡ length ws
+  pub within : used + length c + 1 ≤ length rs
+  pub closed : ends true (take (used + length c + 1) rs) ≡ true
+  pub held : parse (take (used + length c + 1) rs) ≡ parse (take used ws) ++ (c ∷ [])
+  pub rest : drop (used + length c + 1) rs ≡ drop (used + length c + 1) ws
 
-pub put_end : (ws₀ ws c : List ℤ) (at i : ℕ) → take (at + i) ws ≡ take at ws₀ ++ take i c → i ≡ length c → at + length c < length ws → take (at + length c + 1) (set ws (at + length c) (pos 0)) ≡ take at ws₀ ++ (c ++ (pos 0 ∷ []))
-put_end ws₀ ws c at i inv e l =
-    let k : length c ≤ i = omega arith in
-    let j : at + length c ≡ at + i = ap (λ n. at + n) (sym e) in
-    take_more_set ws (at + length c) (pos 0) l
-    ∙ ap (λ n. take n ws ++ (pos 0 ∷ [])) j
-    ∙ ap (λ xs. xs ++ (pos 0 ∷ [])) (inv ∙ ap (λ xs. take at ws₀ ++ xs) (take_all i c k))
-    ∙ append_assoc (take at ws₀) c (pos 0 ∷ [])
+pub put_clause : (used : ℕ) (ws c ys : List ℤ) → ys ≡ c → used + length c + 1 ≤ length ws → ends true (take used ws) ≡ true → bad_clause 4096 c ≡ false → Put used ws c (set (put_mid used (used + length c - used) ws ys) (used + length c) (pos 0))
+put_clause used ws c ys e room closed good =
+    let end = used + length c in
+    let vs = put_mid used (end - used) ws ys in
+    let rs = set vs end (pos 0) in
+    let n : length c ≡ end - used = omega arith in
+    let k : length ys ≡ end - used = ap length e ∙ n in
+    let size : length vs ≡ length ws = grind (arith, common_steps) in
+    let long = length-set vs end (pos 0) ∙ size in
+    let is : take (end + 1) rs ≡ take used ws ++ (c ++ (pos 0 ∷ [])) =
+    take_more_set vs end (pos 0) (omega arith)
+    ∙ ap (λ xs. xs ++ (pos 0 ∷ [])) (take-put_mid used (end - used) ws ys end (omega (arith, ap length e)) (omega arith) ∙ ap (λ xs. take used ws ++ xs) e)
+    ∙ append_assoc (take used ws) c (pos 0 ∷ []) in
+    record {
+      long = long;
+      within = omega arith;
+      closed = ap (ends true) is ∙ ends_app true (take used ws) (c ++ (pos 0 ∷ [])) ∙ ends_app _ c (pos 0 ∷ []);
+      held =
+          ap parse is
+          ∙ (parse_app true (take used ws) (c ++ (pos 0 ∷ [])) closed).0
+          ∙ ap (λ cs. parse (take used ws) ++ cs) (parse_clause 4096 c [] (or_parts (ltb 130 (length c)) (any (bad_literal 4096) c) good).1);
+      rest = drop-set-lt (end + 1) vs end (pos 0) (omega arith) ∙ drop-put_mid used (end - used) ws ys (end + 1) (omega arith) (omega arith) k;
+    }
 
 -- a word in a closed row
 closed_at : (b : Bool) (ws : List ℤ) (i : ℕ) (x : ℤ) (ys : List ℤ) → ends b ws ≡ true → drop i ws ≡ x ∷ ys → ends (is_zero x) ys ≡ true

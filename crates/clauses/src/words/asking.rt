@@ -5,7 +5,7 @@ ghost use Rattle.clauses.specs.Granted.{bounded_by};
 ghost use Rattle.clauses.specs.Rows.{parse};
 
 use crate::source::Source;
-use crate::words::WordSink;
+use crate::words::{WIDEST, WordSink};
 
 impl<'a> Source for WordSink<'a> {
     ghost held = { λ s. parse (take s.used s.words.now) };
@@ -23,7 +23,7 @@ impl<'a> Source for WordSink<'a> {
     }
 
     fn widest_variable(&self) -> usize {
-        4096
+        WIDEST
     }
 
     fn first_place(&self) -> usize {
