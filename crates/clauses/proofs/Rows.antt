@@ -80,6 +80,10 @@ count_le (negsuc n ∷ xs) = omega (arith, count_le xs, length_onto (negsuc n) (
 pub spent : (ws : List ℤ) (used : ℕ) → used ≤ length ws → ends true (take used ws) ≡ true → any (bad_clause 4096) (parse (take used ws)) ≡ false → total word_cost (parse (take used ws)) ≡ used
 spent ws used h e g = total_flat (parse (take used ws)) g ∙ ap length (flat_parse true (take used ws) e) ∙ length-take-le used ws h
 
+-- the words once ys and a 0 are written where a clause has its place
+abbrev pub put : ℕ → List ℤ → List ℤ → List ℤ → List ℤ
+put used ws c ys = set (put_mid used (used + length c - used) ws ys) (used + length c) (pos 0)
+
 -- a clause and its 0 are written after the words in use
 pub record Put (used : ℕ) (ws c rs : List ℤ) : Type 0 where
   pub long : length rs ≡ length ws
@@ -88,7 +92,7 @@ pub record Put (used : ℕ) (ws c rs : List ℤ) : Type 0 where
   pub held : parse (take (used + length c + 1) rs) ≡ parse (take used ws) ++ (c ∷ [])
   pub rest : drop (used + length c + 1) rs ≡ drop (used + length c + 1) ws
 
-pub put_clause : (used : ℕ) (ws c ys : List ℤ) → ys ≡ c → used + length c + 1 ≤ length ws → ends true (take used ws) ≡ true → bad_clause 4096 c ≡ false → Put used ws c (set (put_mid used (used + length c - used) ws ys) (used + length c) (pos 0))
+pub put_clause : (used : ℕ) (ws c ys : List ℤ) → ys ≡ c → used + length c + 1 ≤ length ws → ends true (take used ws) ≡ true → bad_clause 4096 c ≡ false → Put used ws c (put used ws c ys)
 put_clause used ws c ys e room closed good =
     let end = used + length c in
     let vs = put_mid used (end - used) ws ys in
