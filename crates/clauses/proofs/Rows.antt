@@ -131,6 +131,10 @@ word_is (pos zero) ys h = refl
 word_is (pos (suc n)) ys h = (refl, (parse_app false ys [] h).1 refl)
 word_is (negsuc n) ys h = (refl, (parse_app false ys [] h).1 refl)
 
+-- the first word of a closed row
+pub word_read : (ws : List ℤ) (x : ℤ) (ys : List ℤ) → ends true ws ≡ true → ws ≡ x ∷ ys → Word x (parse ws) (parse ys)
+word_read ws x ys h e = subst (λ (zs : List ℤ). Word x (parse zs) (parse ys)) (sym e) (word_is x ys (sym (ap (ends true) e) ∙ h))
+
 pub reads_row : (ws : List ℤ) (i : ℕ) → ends true ws ≡ true → i < length ws → Word (get_or ws i (pos 0)) (parse (drop i ws)) (parse (drop (i + 1) ws))
 reads_row ws i h l =
     let e = drop_more ws i (pos 0) l in

@@ -5,7 +5,7 @@ ghost use Rattle.text.specs.Bounds.{text_cheap};
 ghost use Rattle.text.specs.Lines.{literal_text, text_cost};
 
 use crate::digits::{digit_count, line_cost, line_fits};
-use crate::lines::TextSink;
+use crate::lines::{TextSink, WIDEST};
 use clauses::{Sink, bad_clause};
 use rules::Refusal;
 
@@ -21,7 +21,7 @@ impl<'a> Sink for TextSink<'a> {
     ghost lent = { λ s. s.bytes.ghost_name };
 
     fn cost_of(&self, clause: &[i32]) -> usize {
-        if bad_clause(999_999, clause) {
+        if bad_clause(WIDEST, clause) {
             0
         } else {
             line_cost(clause)
@@ -33,7 +33,7 @@ impl<'a> Sink for TextSink<'a> {
     }
 
     fn add(&mut self, clause: &[i32]) -> Result<(), Refusal> {
-        if bad_clause(999_999, clause) {
+        if bad_clause(WIDEST, clause) {
             return Err(Refusal::BadClause);
         }
         if !line_fits(clause, self.bytes.len() - self.used) {

@@ -3,8 +3,8 @@ use Rattle.std.proofs.lemmas.List.{at_drop_all}
 use Rattle.std.proofs.lemmas.Int.{to_z-of_z}
 use Rattle.text.specs.Scan.{longer, scan, numbers}
 use Rattle.text.proofs.Scanning.{step_end, step_minus, step_digit}
-use Rattle.text.proofs.reading.word_from.Goals as goal
-use Rattle.text.proofs.reading.word_from.Goals.{then-b-eq45, else-b-eq45}
+use Rattle.text.proofs.reading.first_number.Goals as goal
+use Rattle.text.proofs.reading.first_number.Goals.{then-b-eq45, else-b-eq45}
 
 pub returns-then-b-lt33 : goal.returns-then-b-lt33
 returns-then-b-lt33 c =
