@@ -4,7 +4,7 @@ use lib.Signed.{lt_z}
 use mir.Val.{bool_byte}
 use Rattle.text.specs.Lines.{literal_text}
 use Rattle.std.proofs.lemmas.Fmt.{decimal_digit, decimal_step}
-use Rattle.std.proofs.lemmas.List.{append_assoc, length-append, length-set, length-take-le, drop_more, drop-set, drop_all, take-set, take-set-le, take_more_set, take_all, take-take, take_at, drop_at, take-append-drop, get_or_at, get_or-take, get_or-set_same}
+use Rattle.std.proofs.lemmas.List.{append_assoc, length-append, length-set, length-take-le, drop_more, drop-set, drop_all, take-set-le, take_more_set, take_all, take-take, take_at, drop_at, take-append-drop, get_or_at, get_or-take, get_or-set_same}
 use Rattle.std.proofs.lemmas.Bool.{cases_lt, cases_Bool}
 use Rattle.text.proofs.Written.{one_digit, digit_more, literal_positive, literal_negative}
 
@@ -63,19 +63,16 @@ module _ (z l : ℤ) (m : ℕ) (is : z ≡ l) (size : m ≡ nat_abs z) where
       (λ (y : lt_z z (pos 0) ≡ false). omega (arith, ap length (literal_positive l m (negative false y) same), length-append (decimal m) (32 ∷ []), ap bool_byte y, e))
       (cases_Bool (lt_z z (pos 0)))
 
-  pub literal_joined : (ws : List ℕ) (at : ℕ) → at < length ws → take (at + bool_byte (lt_z z (pos 0))) (set ws at 45) ++ (decimal m ++ (32 ∷ [])) ≡ take at ws ++ literal_text l
-  literal_joined ws at h =
+  pub literal_joined : (ws : List ℕ) → 0 < length ws → take (bool_byte (lt_z z (pos 0))) (set ws 0 45) ++ (decimal m ++ (32 ∷ [])) ≡ literal_text l
+  literal_joined ws h =
       ⊎_elim
       (λ (y : lt_z z (pos 0) ≡ true).
-      ap (λ (b : Bool). take (at + bool_byte b) (set ws at 45) ++ (decimal m ++ (32 ∷ []))) y
-      ∙ ap (λ xs. xs ++ (decimal m ++ (32 ∷ []))) (take_more_set ws at 45 h)
-      ∙ append_assoc (take at ws) (45 ∷ []) (decimal m ++ (32 ∷ []))
-      ∙ ap (λ xs. take at ws ++ xs) (sym (literal_negative l m (negative true y) same)))
+      ap (λ (b : Bool). take (bool_byte b) (set ws 0 45) ++ (decimal m ++ (32 ∷ []))) y
+      ∙ ap (λ xs. xs ++ (decimal m ++ (32 ∷ []))) (take_more_set ws 0 45 h)
+      ∙ sym (literal_negative l m (negative true y) same))
       (λ (y : lt_z z (pos 0) ≡ false).
-      ap (λ (b : Bool). take (at + bool_byte b) (set ws at 45) ++ (decimal m ++ (32 ∷ []))) y
-      ∙ ap (λ k. take k (set ws at 45) ++ (decimal m ++ (32 ∷ []))) (let e : at + 0 ≡ at = omega arith in e)
-      ∙ ap (λ xs. xs ++ (decimal m ++ (32 ∷ []))) (take-set ws at 45)
-      ∙ ap (λ xs. take at ws ++ xs) (sym (literal_positive l m (negative false y) same)))
+      ap (λ (b : Bool). take (bool_byte b) (set ws 0 45) ++ (decimal m ++ (32 ∷ []))) y
+      ∙ sym (literal_positive l m (negative false y) same))
       (cases_Bool (lt_z z (pos 0)))
 
 module _ (ws D head : List ℕ) (first n j left : ℕ) (vs : List ℕ) (h : Partly ws D head first n j left vs) (whole : length D ≡ n) where

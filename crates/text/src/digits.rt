@@ -31,8 +31,8 @@ pub(crate) fn line_cost(clause: &[i32]) -> usize
     ensures counts_line { result ≡ length (line_text clause.now) }
 {
     let mut cost = 2;
-    for i in 0..clause.len() {
-        cost += literal_cost(clause[i]);
+    for l in clause {
+        cost += literal_cost(*l);
     }
     cost
 }

@@ -13,38 +13,38 @@ use Rattle.text.proofs.digits.line_cost.Goals as goal
 pub literal_cost-cost-requires : goal.literal_cost-cost-requires
 literal_cost-cost-requires c =
     let xs = c.args.clause.now in
-    let i = c.loop-i.i in
+    let i = c.loop-l.l-index in
     let f : SFits w32 (get_or xs i (pos 0)) = search rules in
     let good = (or_parts (ltb 130 (length xs)) (any (bad_literal 999999) xs) c.requires).1 in
-    ap (bad_literal 999999) (to_z-of_z w32 (get_or xs i (pos 0)) f) ∙ good_at 999999 xs i good c.loop-i-test.true
+    ap (bad_literal 999999) (to_z-of_z w32 (get_or xs i (pos 0)) f) ∙ good_at 999999 xs i good c.loop-l-test.true
 
 -- the literal's bytes
-now-here : (c : goal.After-literal_cost-cost) → (c.literal_cost-cost.result ≡ length (literal_text (get_or c.args.clause.now c.loop-i.i (pos 0)))) × (c.literal_cost-cost.result ≤ 8)
+now-here : (c : goal.After-literal_cost-cost) → (c.literal_cost-cost.result ≡ length (literal_text (get_or c.args.clause.now c.loop-l.l-index (pos 0)))) × (c.literal_cost-cost.result ≤ 8)
 now-here c =
     let xs = c.args.clause.now in
-    let i = c.loop-i.i in
+    let i = c.loop-l.l-index in
     let f : SFits w32 (get_or xs i (pos 0)) = search rules in
     let good = (or_parts (ltb 130 (length xs)) (any (bad_literal 999999) xs) c.requires).1 in
     let e = c.literal_cost-cost.ensures.counts_bytes ∙ ap (λ (z : ℤ). length (literal_text z)) (to_z-of_z w32 (get_or xs i (pos 0)) f) in
-    (e, omega (arith, e, literal_short (get_or xs i (pos 0)) (good_at 999999 xs i good c.loop-i-test.true)))
+    (e, omega (arith, e, literal_short (get_or xs i (pos 0)) (good_at 999999 xs i good c.loop-l-test.true)))
 
 pub overflow_add-cost : goal.overflow_add-cost
 overflow_add-cost c =
     let xs = c.args.clause.now in
     let few = ltb-false 130 (length xs) (or_parts (ltb 130 (length xs)) (any (bad_literal 999999) xs) c.requires).0 in
     let h = now-here c in
-    omega (arith, c.loop-i.invariant.1, c.loop-i-test.true, h.1)
+    omega (arith, c.loop-l.invariant.1, c.loop-l-test.true, h.1)
 
-pub loop-i-preserved : goal.loop-i-preserved
-loop-i-preserved c =
+pub loop-l-preserved : goal.loop-l-preserved
+loop-l-preserved c =
     let xs = c.args.clause.now in
-    let i = c.loop-i.i in
+    let i = c.loop-l.l-index in
     let h = now-here c in
-    let e = ap length (literals_more xs i c.loop-i-test.true) ∙ length-append (each literal_text (take i xs)) (literal_text (get_or xs i (pos 0))) in
-    (omega (arith, c.loop-i.invariant.0, h.0), omega (arith, c.loop-i.invariant.1, h.1))
+    let e = ap length (literals_more xs i c.loop-l-test.true) ∙ length-append (each literal_text (take i xs)) (literal_text (get_or xs i (pos 0))) in
+    (omega (arith, c.loop-l.invariant.0, h.0), omega (arith, c.loop-l.invariant.1, h.1))
 
 pub returns : goal.returns
 returns c =
     let xs = c.args.clause.now in
-    let e = ap (λ ys. length (each literal_text ys)) (take_all c.loop-i.i xs c.loop-i-test.false) in
-    record { counts_line = omega (arith, e, c.loop-i.invariant.0, length-append (each literal_text xs) (48 ∷ 10 ∷ [])) }
+    let e = ap (λ ys. length (each literal_text ys)) (take_all c.loop-l.l-index xs c.loop-l-test.false) in
+    record { counts_line = omega (arith, e, c.loop-l.invariant.0, length-append (each literal_text xs) (48 ∷ 10 ∷ [])) }
