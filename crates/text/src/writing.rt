@@ -22,8 +22,8 @@ fn put_literal(bytes: &mut [u8], l: i32) -> usize
     bytes[0] = b'-';
     bytes[end] = b' ';
     let mut left = size;
-    for j in 0..count {
-        bytes[first + (count - (j + 1))] = b'0' + (left % 10) as u8;
+    for i in (first..end).rev() {
+        bytes[i] = b'0' + (left % 10) as u8;
         left /= 10;
     }
     end + 1
