@@ -1,5 +1,5 @@
 -- Words complete clauses exactly where they are the clauses' numbers, written.
-use Rattle.std.proofs.Common.{◌≡◌, ℕ, zero, suc, ◌+◌, ◌^◌, ◌<◌, ◌≤◌, Bool, true, false, cond, ◌&&◌, eqb, ltb, List, [], ◌∷◌, ◌++◌, map, length, drop, ℤ, pos, negsuc, neg_ℤ, nat_abs, Some, None, Option, sym, refl, ap, ◌∙◌, arith}
+use Rattle.std.proofs.Common.{◌≡◌, ℕ, zero, suc, ◌+◌, ◌^◌, ◌<◌, ◌≤◌, Bool, true, false, cond, ◌&&◌, eqb, ltb, List, [], ◌∷◌, ◌++◌, map, length, ℤ, pos, negsuc, neg_ℤ, nat_abs, Some, None, Option, sym, refl, ap, ◌∙◌, arith}
 use Rattle.std.specs.Fmt.{signed_decimal}
 use Rattle.std.proofs.lemmas.Fmt.{decimal_digit}
 use Rattle.std.proofs.lemmas.Bool.{or_parts, or_from, and_parts, and_left, eqb-true, eq-eqb, ne_eqb, eqb-false, ltb-true, lt-ltb, ltb-false, le-ltb, false≢true}
@@ -185,9 +185,9 @@ nothing : (m : Bool) (s : ℕ) → s ≡ 0 → cond m (neg_ℤ (pos s)) (pos s) 
 nothing true s e = ap (λ n. neg_ℤ (pos n)) e
 nothing false s e = ap pos e
 
-module _ (v count : ℕ) (body : List ℕ) (place closed long : ℕ) (inv : completes v count 0 0 (words_of body) ≡ completes v count closed long (words_of (drop place body))) (word : List ℕ) (end : ℕ) (next : NextWord body place word end) where
+module _ (v count : ℕ) (body left : List ℕ) (closed long : ℕ) (inv : completes v count 0 0 (words_of body) ≡ completes v count closed long (words_of left)) (word rest : List ℕ) (next : NextWord left word rest) where
   abbrev after : List (List ℕ)
-  after = words_of (drop end body)
+  after = words_of rest
 
   turn : (o : Option ℤ) → number_of v word ≡ o → completes v count 0 0 (words_of body) ≡ by_number o (completes v count (closed + 1) 0 after) (ltb long 130 && completes v count closed (long + 1) after)
   turn o e =
@@ -219,7 +219,7 @@ module _ (v count : ℕ) (body : List ℕ) (place closed long : ℕ) (inv : comp
       turn_literal l = literal ∙ ap (λ b. b && completes v count closed (long + 1) after) (lt-ltb long 130 l)
 
 -- no word is left
-module _ (v count : ℕ) (body : List ℕ) (place closed long : ℕ) (inv : completes v count 0 0 (words_of body) ≡ completes v count closed long (words_of (drop place body))) (none : words_of (drop place body) ≡ []) where
+module _ (v count : ℕ) (body left : List ℕ) (closed long : ℕ) (inv : completes v count 0 0 (words_of body) ≡ completes v count closed long (words_of left)) (none : words_of left ≡ []) where
   over : completes v count 0 0 (words_of body) ≡ (eqb long 0 && eqb closed count)
   over = inv ∙ ap (completes v count closed long) none
 
