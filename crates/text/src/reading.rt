@@ -5,14 +5,14 @@ ghost use Rattle.text.specs.Words.{First};
 
 // The size with one more digit, whose value is the low half of its byte. No number written reaches 2^20.
 fn pushed(size: u32, b: u8) -> u32
-    requires { size < 1048576 }
+    requires small { size < 1048576 }
     ensures appends_digit { result ≡ longer size b }
 {
     (10 * size + (b % 16) as u32) % 1_048_576
 }
 
 fn with_sign(minus: bool, size: u32) -> i32
-    requires { size < 1048576 }
+    requires small { size < 1048576 }
     ensures puts_sign { result ≡ signed_by minus size }
 {
     let n = size as i32;

@@ -9,7 +9,7 @@ pub mod asking;
 pub mod lending;
 
 // The widest variable of any view.
-const WIDEST: usize = 999_999;
+pub(crate) const WIDEST: usize = 999_999;
 
 // The text after its head line, with V and C from there.
 #[derive(Clone, Copy)]

@@ -4,6 +4,7 @@ ghost use Rattle.std.specs.List.{position};
 ghost use Rattle.view.specs.Body.{value_of};
 ghost use Rattle.view.specs.Words.{gap, words_of, NextWord};
 
+use crate::text_view::WIDEST;
 use lines::read_number;
 
 fn is_gap(b: u8) -> bool
@@ -39,7 +40,7 @@ pub(crate) fn next_word(text: &[u8]) -> Option<(&[u8], &[u8])>
 pub(crate) fn number_in(word: &[u8]) -> i32
     ensures reads_value { result ≡ value_of word.now }
 {
-    match read_number(word, 999_999) {
+    match read_number(word, WIDEST) {
         Some(number) => {
             let n = number.size as i32;
             if number.minus { -n } else { n }

@@ -31,4 +31,4 @@ count n h =
     (cases_lt n 10)
 
 pub returns : goal.returns
-returns c = record { counts_digits = count c.args.n c.requires }
+returns c = record { counts_digits = count c.args.n c.requires.small }

@@ -15,8 +15,8 @@ literal_cost-cost-requires c =
     let xs = c.args.clause.now in
     let i = c.loop-l.l-index in
     let f : SFits w32 (get_or xs i (pos 0)) = search rules in
-    let good = (or_parts (ltb 130 (length xs)) (any (bad_literal 999999) xs) c.requires).1 in
-    ap (bad_literal 999999) (to_z-of_z w32 (get_or xs i (pos 0)) f) ∙ good_at 999999 xs i good c.loop-l-test.true
+    let good = (or_parts (ltb 130 (length xs)) (any (bad_literal 999999) xs) c.requires.good).1 in
+    record { good = ap (bad_literal 999999) (to_z-of_z w32 (get_or xs i (pos 0)) f) ∙ good_at 999999 xs i good c.loop-l-test.true }
 
 -- the literal's bytes
 now-here : (c : goal.After-literal_cost-cost) → (c.literal_cost-cost.result ≡ length (literal_text (get_or c.args.clause.now c.loop-l.l-index (pos 0)))) × (c.literal_cost-cost.result ≤ 8)
@@ -24,14 +24,14 @@ now-here c =
     let xs = c.args.clause.now in
     let i = c.loop-l.l-index in
     let f : SFits w32 (get_or xs i (pos 0)) = search rules in
-    let good = (or_parts (ltb 130 (length xs)) (any (bad_literal 999999) xs) c.requires).1 in
+    let good = (or_parts (ltb 130 (length xs)) (any (bad_literal 999999) xs) c.requires.good).1 in
     let e = c.literal_cost-cost.ensures.counts_bytes ∙ ap (λ (z : ℤ). length (literal_text z)) (to_z-of_z w32 (get_or xs i (pos 0)) f) in
     (e, omega (arith, e, literal_short (get_or xs i (pos 0)) (good_at 999999 xs i good c.loop-l-test.true)))
 
 pub overflow_add-cost : goal.overflow_add-cost
 overflow_add-cost c =
     let xs = c.args.clause.now in
-    let few = ltb-false 130 (length xs) (or_parts (ltb 130 (length xs)) (any (bad_literal 999999) xs) c.requires).0 in
+    let few = ltb-false 130 (length xs) (or_parts (ltb 130 (length xs)) (any (bad_literal 999999) xs) c.requires.good).0 in
     let h = now-here c in
     omega (arith, c.loop-l.invariant.1, c.loop-l-test.true, h.1)
 

@@ -26,13 +26,13 @@ more c =
 pub overflow_add-result : goal.overflow_add-result
 overflow_add-result c =
     let e = less c in
-    let s = literal_short c.args.l c.requires in
+    let s = literal_short c.args.l c.requires.good in
     omega arith
 
 pub overflow_add-result-else-l-lt0 : goal.overflow_add-result-else-l-lt0
 overflow_add-result-else-l-lt0 c =
     let e = more c in
-    let s = literal_short c.args.l c.requires in
+    let s = literal_short c.args.l c.requires.good in
     omega arith
 
 pub returns-then-l-lt0 : goal.returns-then-l-lt0
