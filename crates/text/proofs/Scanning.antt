@@ -1,12 +1,12 @@
 -- What is scanned of a text that was written.
-use Rattle.std.proofs.Common.{◌≡◌, ℕ, zero, suc, ◌+◌, ◌-◌, ◌*◌, ◌%◌, ◌<◌, ◌≤◌, Bool, true, false, cond, eqb, ltb, List, [], ◌∷◌, ◌++◌, length, get_or, drop, ℤ, pos, negsuc, nat_abs, decimal, sym, refl, ap, ◌∙◌, subst, mod-eq_of_lt, arith, rules}
+use Rattle.std.proofs.Common.{◌≡◌, ℕ, zero, suc, ◌+◌, ◌-◌, ◌*◌, ◌%◌, ◌<◌, ◌≤◌, Bool, true, false, cond, eqb, ltb, List, [], ◌∷◌, ◌++◌, length, ℤ, pos, negsuc, nat_abs, decimal, sym, refl, ap, ◌∙◌, subst, mod-eq_of_lt, arith, rules}
 use Rattle.std.specs.Char.{is_ascii_digit}
 use Rattle.std.specs.Fmt.{signed_decimal}
 use Rattle.std.specs.Str.{all_ascii_digits}
 use Rattle.std.proofs.lemmas.Fmt.{digits_decimal, digits_value-decimal}
-use Rattle.std.proofs.lemmas.List.{append_assoc, at_drop_more}
+use Rattle.std.proofs.lemmas.List.{append_assoc}
 use Rattle.std.proofs.lemmas.Str.Parse.{IsNumeralModel, numerals_by_fold}
-use Rattle.std.proofs.lemmas.Bool.{and_parts, or_parts, leb-true, le-ltb, lt-ltb, eq-eqb, ne_eqb, cond-true, cond-false, cond_both}
+use Rattle.std.proofs.lemmas.Bool.{and_parts, or_parts, leb-true, le-ltb, ne_eqb, cond-false, cond_both}
 use Rattle.rules.specs.Lists.{any, each}
 use Rattle.rules.specs.Clauses.{Clause, bad_literal, bad_clause}
 use Rattle.clauses.specs.Rows.{parse, flat, ends, is_zero}
@@ -111,15 +111,3 @@ pub shut_lines : (cs : List Clause) → any (bad_clause 999999) cs ≡ false →
 shut_lines [] h zero = refl
 shut_lines [] h (suc p) = refl
 shut_lines (c ∷ cs) h p = shut_line c (lines_text cs) (good_literals c cs h) (shut_lines cs (good_others c cs h)) p
-
--- one byte on
-pub step_end : (m : Bool) (a : ℕ) (bs : List ℕ) (i : ℕ) → i < length bs → get_or bs i 0 < 33 → scan m a (drop i bs) ≡ signed_by m a ∷ numbers (drop (i + 1) bs)
-step_end m a bs i h l = at_drop_more (scan m a) bs i 0 h ∙ cond-true (ltb (get_or bs i 0) 33) _ _ (lt-ltb (get_or bs i 0) 33 l)
-
-pub step_minus : (m : Bool) (a : ℕ) (bs : List ℕ) (i : ℕ) → i < length bs → get_or bs i 0 ≡ 45 → scan m a (drop i bs) ≡ scan true a (drop (i + 1) bs)
-step_minus m a bs i h e =
-    let wide : 33 ≤ get_or bs i 0 = omega arith in
-    at_drop_more (scan m a) bs i 0 h ∙ cond-false (ltb (get_or bs i 0) 33) _ _ (le-ltb (get_or bs i 0) 33 wide) ∙ cond-true (eqb (get_or bs i 0) 45) _ _ (eq-eqb (get_or bs i 0) 45 e)
-
-pub step_digit : (m : Bool) (a : ℕ) (bs : List ℕ) (i : ℕ) → i < length bs → 33 ≤ get_or bs i 0 → (get_or bs i 0 ≡ 45 → ⊥) → scan m a (drop i bs) ≡ scan m (longer a (get_or bs i 0)) (drop (i + 1) bs)
-step_digit m a bs i h wide ne = at_drop_more (scan m a) bs i 0 h ∙ cond-false (ltb (get_or bs i 0) 33) _ _ (le-ltb (get_or bs i 0) 33 wide) ∙ cond-false (eqb (get_or bs i 0) 45) _ _ (ne_eqb (get_or bs i 0) 45 ne)

@@ -7,6 +7,7 @@ ghost use Rattle.text.specs.Lines.{literal_text, line_text};
 pub(crate) fn digit_count(n: u32) -> usize
     requires small { n < 1000000 }
     ensures counts_digits { result ≡ length (decimal n) }
+    ensures few_digits { result ≤ 6 }
 {
     // A sum of tests, since which of them hold cannot be foreseen.
     1 + (n >= 10) as usize
@@ -20,6 +21,7 @@ pub(crate) fn digit_count(n: u32) -> usize
 fn literal_cost(l: i32) -> usize
     requires good { bad_literal 999999 l ≡ false }
     ensures counts_bytes { result ≡ length (literal_text l) }
+    ensures few_bytes { result ≤ 8 }
 {
     let digits = digit_count(l.unsigned_abs());
     if l < 0 { digits + 2 } else { digits + 1 }

@@ -224,7 +224,3 @@ module _ (text left line rest : List ℕ) (cut : Cut left line rest) (to : (v c 
 
   pub front_read : (v c : ℕ) → ReadsHead line (Some (v, c)) → Headed text v c rest
   front_read v c r = from v c rest (headed_first left v c rest r.0 r.1 line cut r.2)
-
-pub no_comment : (l : List ℕ) → length l ≡ 0 → false ≡ eqb (get_or l 0 0) 99
-no_comment [] e = refl
-no_comment (b ∷ bs) e = absurd (omega arith)
