@@ -1,13 +1,14 @@
 -- What `parse` gives of rows that are joined or walked.
-use Rattle.std.proofs.Common.{◌≡◌, ℕ, zero, suc, ◌+◌, ◌-◌, ◌<◌, ◌≤◌, Bool, true, false, ltb, List, [], ◌∷◌, ◌++◌, length, get_or, take, drop, set, ℤ, pos, negsuc, Some, None, Option, sym, refl, ap, ◌∙◌, subst, arith, w32, SFits, of_z}
-use Rattle.std.proofs.lemmas.Int.{ints}
+use Rattle.std.proofs.Common.{◌≡◌, ℕ, zero, suc, ◌+◌, ◌-◌, ◌<◌, ◌≤◌, Bool, true, false, ltb, List, [], ◌∷◌, ◌++◌, length, get_or, take, drop, set, ℤ, pos, negsuc, sym, refl, ap, ◌∙◌, subst, arith}
 use Rattle.std.proofs.lemmas.Bool.{false≢true, true≢false, or_parts, cond-false}
-use Rattle.std.proofs.lemmas.List.{at_drop_more, at_drop_all, length-take-le, take_more_set, take_more, take_all, append_assoc, length-drop, length-append, get_or-take, get_or-drop, drop_more}
+use Rattle.std.proofs.lemmas.List.{length-take-le, take_more_set, append_assoc, length-append, length-set, drop-set-lt, drop_more}
+use Rattle.std.proofs.lemmas.Grind.{common_steps}
+use Rattle.std.proofs.lemmas.Slice.{take-put_mid, drop-put_mid}
+use borrow.Rule.Slice.PartMut.{put_mid}
 use Rattle.rules.specs.Lists.{any}
 use Rattle.rules.specs.Clauses.{Clause, bad_literal, bad_clause, total}
-use Rattle.clauses.specs.Asked.{at0, length_of}
 use Rattle.clauses.specs.Walk.{onto, some_clause, Word}
-use Rattle.clauses.specs.Rows.{flat, parse, is_zero, ends, word_cost, literal0}
+use Rattle.clauses.specs.Rows.{flat, parse, is_zero, ends, word_cost}
 
 onto_app : (l : ℤ) (cs ds : List Clause) → some_clause cs ≡ true → onto l (cs ++ ds) ≡ onto l cs ++ ds
 onto_app l [] ds h = absurd (false≢true h)
@@ -75,149 +76,45 @@ count_le (pos zero ∷ xs) = let ih = count_le xs in omega arith
 count_le (pos (suc n) ∷ xs) = omega (arith, count_le xs, length_onto (pos (suc n)) (parse xs))
 count_le (negsuc n ∷ xs) = omega (arith, count_le xs, length_onto (negsuc n) (parse xs))
 
--- one word on, while the clause is sought
-pub past_zero : (x : ℤ) (xs : List ℤ) (m : ℕ) → x ≡ pos 0 → at0 (parse (x ∷ xs)) (suc m) ≡ at0 (parse xs) m
-past_zero x xs m e = ap (λ (y : ℤ). at0 (parse (y ∷ xs)) (suc m)) e
-
-at_onto : (l : ℤ) (cs : List Clause) (m : ℕ) → at0 (onto l cs) (suc m) ≡ at0 cs (suc m)
-at_onto l [] m = refl
-at_onto l (c ∷ cs) m = refl
-
-pub past_word : (x : ℤ) (xs : List ℤ) (m : ℕ) → (x ≡ pos 0 → ⊥) → at0 (parse (x ∷ xs)) (suc m) ≡ at0 (parse xs) (suc m)
-past_word (pos zero) xs m ne = absurd (ne refl)
-past_word (pos (suc n)) xs m ne = at_onto (pos (suc n)) (parse xs) m
-past_word (negsuc n) xs m ne = at_onto (negsuc n) (parse xs) m
-
-pub seek_zero : (ws : List ℤ) (i m : ℕ) → i < length ws → 0 < m → get_or ws i (pos 0) ≡ pos 0 → at0 (parse (drop i ws)) m ≡ at0 (parse (drop (i + 1) ws)) (m - 1)
-seek_zero ws i zero h p e = absurd (omega arith)
-seek_zero ws i (suc m) h p e =
-    let k : suc m - 1 ≡ m = omega arith in
-    at_drop_more (λ xs. at0 (parse xs) (suc m)) ws i (pos 0) h ∙ past_zero (get_or ws i (pos 0)) (drop (i + 1) ws) m e ∙ ap (at0 (parse (drop (i + 1) ws))) (sym k)
-
-pub seek_word : (ws : List ℤ) (i m : ℕ) → i < length ws → 0 < m → (get_or ws i (pos 0) ≡ pos 0 → ⊥) → at0 (parse (drop i ws)) m ≡ at0 (parse (drop (i + 1) ws)) m
-seek_word ws i zero h p e = absurd (omega arith)
-seek_word ws i (suc m) h p e =
-    at_drop_more (λ xs. at0 (parse xs) (suc m)) ws i (pos 0) h ∙ past_word (get_or ws i (pos 0)) (drop (i + 1) ws) m e
-
-pub seek_end : (ws : List ℤ) (i m : ℕ) → length ws ≤ i → at0 (parse (drop i ws)) m ≡ None
-seek_end ws i m h = at_drop_all (λ xs. at0 (parse xs) m) ws i h
-
--- the length of the first clause, k words on
-abbrev pub more : ℕ → Option ℕ → Option ℕ
-more k None = None
-more k (Some n) = Some (k + n)
-
-abbrev pub first_len : List ℤ → Option ℕ
-first_len ws = length_of (at0 (parse ws) 0)
-
-more_more : (k : ℕ) (o : Option ℕ) → more k (more 1 o) ≡ more (k + 1) o
-more_more k None = refl
-more_more k (Some n) = ap Some (omega arith)
-
-len_onto : (l : ℤ) (cs : List Clause) → length_of (at0 (onto l cs) 0) ≡ more 1 (length_of (at0 cs 0))
-len_onto l [] = refl
-len_onto l (c ∷ cs) = ap Some (omega arith)
-
-pub len_zero : (x : ℤ) (xs : List ℤ) → x ≡ pos 0 → first_len (x ∷ xs) ≡ Some 0
-len_zero x xs e = ap (λ (y : ℤ). first_len (y ∷ xs)) e
-
-pub len_word : (x : ℤ) (xs : List ℤ) → (x ≡ pos 0 → ⊥) → first_len (x ∷ xs) ≡ more 1 (first_len xs)
-len_word (pos zero) xs ne = absurd (ne refl)
-len_word (pos (suc n)) xs ne = len_onto (pos (suc n)) (parse xs)
-len_word (negsuc n) xs ne = len_onto (negsuc n) (parse xs)
-
-pub run_start : (o : Option ℕ) → o ≡ more 0 o
-run_start None = refl
-run_start (Some n) = ap Some (omega arith)
-
-pub run_zero : (ws : List ℤ) (i k : ℕ) → i < length ws → get_or ws i (pos 0) ≡ pos 0 → more k (first_len (drop i ws)) ≡ Some k
-run_zero ws i k h e = ap (more k) (at_drop_more first_len ws i (pos 0) h ∙ len_zero (get_or ws i (pos 0)) (drop (i + 1) ws) e) ∙ ap Some (omega arith)
-
-pub run_word : (ws : List ℤ) (i k : ℕ) → i < length ws → (get_or ws i (pos 0) ≡ pos 0 → ⊥) → more k (first_len (drop i ws)) ≡ more (k + 1) (first_len (drop (i + 1) ws))
-run_word ws i k h e = ap (more k) (at_drop_more first_len ws i (pos 0) h ∙ len_word (get_or ws i (pos 0)) (drop (i + 1) ws) e) ∙ more_more k (first_len (drop (i + 1) ws))
-
-pub run_end : (ws : List ℤ) (i k : ℕ) → length ws ≤ i → more k (first_len (drop i ws)) ≡ None
-run_end ws i k h = ap (more k) (at_drop_all first_len ws i h)
-
--- words that read as 0
-pub zero_of : (z : ℤ) → SFits w32 z → of_z w32 z ≡ 0 → z ≡ pos 0
-zero_of z f e = omega (arith, ints)
-
 -- what the words in use cost
 pub spent : (ws : List ℤ) (used : ℕ) → used ≤ length ws → ends true (take used ws) ≡ true → any (bad_clause 4096) (parse (take used ws)) ≡ false → total word_cost (parse (take used ws)) ≡ used
 spent ws used h e g = total_flat (parse (take used ws)) g ∙ ap length (flat_parse true (take used ws) e) ∙ length-take-le used ws h
 
--- one more item is written after a row
-pub put_step : {X : Type 0} (ws₀ ws c : List X) (at i : ℕ) (d y : X) → take (at + i) ws ≡ take at ws₀ ++ take i c → at + i < length ws → i < length c → y ≡ get_or c i d → take (at + (i + 1)) (set ws (at + i) y) ≡ take at ws₀ ++ take (i + 1) c
-put_step ws₀ ws c at i d y inv l h e =
-    let a : at + (i + 1) ≡ at + i + 1 = omega arith in
-    ap (λ n. take n (set ws (at + i) y)) a
-    ∙ take_more_set ws (at + i) y l
-    ∙ ap (λ xs. xs ++ (y ∷ [])) inv
-    ∙ append_assoc (take at ws₀) (take i c) (y ∷ [])
-    ∙ ap (λ z. take at ws₀ ++ (take i c ++ (z ∷ []))) e
-    ∙ ap (λ xs. take at ws₀ ++ xs) (sym (take_more c i d h))
+-- the words once ys and a 0 are written where a clause has its place
+abbrev pub put : ℕ → List ℤ → List ℤ → List ℤ → List ℤ
+put used ws c ys = set (put_mid used (used + length c - used) ws ys) (used + length c) (pos 0)
 
-pub put_end : (ws₀ ws c : List ℤ) (at i : ℕ) → take (at + i) ws ≡ take at ws₀ ++ take i c → i ≡ length c → at + length c < length ws → take (at + length c + 1) (set ws (at + length c) (pos 0)) ≡ take at ws₀ ++ (c ++ (pos 0 ∷ []))
-put_end ws₀ ws c at i inv e l =
-    let k : length c ≤ i = omega arith in
-    let j : at + length c ≡ at + i = ap (λ n. at + n) (sym e) in
-    take_more_set ws (at + length c) (pos 0) l
-    ∙ ap (λ n. take n ws ++ (pos 0 ∷ [])) j
-    ∙ ap (λ xs. xs ++ (pos 0 ∷ [])) (inv ∙ ap (λ xs. take at ws₀ ++ xs) (take_all i c k))
-    ∙ append_assoc (take at ws₀) c (pos 0 ∷ [])
+-- a clause and its 0 are written after the words in use
+pub record Put (used : ℕ) (ws c rs : List ℤ) : Type 0 where
+  pub long : length rs ≡ length ws
+  pub within : used + length c + 1 ≤ length rs
+  pub closed : ends true (take (used + length c + 1) rs) ≡ true
+  pub held : parse (take (used + length c + 1) rs) ≡ parse (take used ws) ++ (c ∷ [])
+  pub rest : drop (used + length c + 1) rs ≡ drop (used + length c + 1) ws
 
--- the first clause of a row
-onto_head : (l : ℤ) (cs : List Clause) (c : List ℤ) → at0 (onto l cs) 0 ≡ Some c → (d : List ℤ) × (at0 cs 0 ≡ Some d) × (c ≡ l ∷ d)
-onto_head l [] c e = let z : ◌≡◌ {A = ℕ} 0 1 = cc in absurd (omega arith)
-onto_head l (d ∷ cs) c e = (d, refl, cc)
-
-pub head_is : (xs c : List ℤ) → at0 (parse xs) 0 ≡ Some c → (c ≡ take (length c) xs) × (length c < length xs)
-head_is [] c e = let z : ◌≡◌ {A = ℕ} 0 1 = cc in absurd (omega arith)
-head_is (pos zero ∷ xs) c e = let n : [] ≡ c = cc in subst (λ (d : List ℤ). (d ≡ take (length d) (pos zero ∷ xs)) × (length d < length (pos zero ∷ xs))) n (refl, omega arith)
-head_is (pos (suc n) ∷ xs) c e =
-    let o = onto_head (pos (suc n)) (parse xs) c e in
-    let ih = head_is xs o.0 o.1 in
-    subst (λ (d : List ℤ). (d ≡ take (length d) (pos (suc n) ∷ xs)) × (length d < length (pos (suc n) ∷ xs))) (sym o.2) (ap (λ d. pos (suc n) ∷ d) ih.0, omega (arith, ih.1))
-head_is (negsuc n ∷ xs) c e =
-    let o = onto_head (negsuc n) (parse xs) c e in
-    let ih = head_is xs o.0 o.1 in
-    subst (λ (d : List ℤ). (d ≡ take (length d) (negsuc n ∷ xs)) × (length d < length (negsuc n ∷ xs))) (sym o.2) (ap (λ d. negsuc n ∷ d) ih.0, omega (arith, ih.1))
-
-at0_in : (c : List ℤ) (k : ℕ) → k < length c → at0 c k ≡ Some (get_or c k (pos 0))
-at0_in [] k h = absurd (omega arith)
-at0_in (x ∷ c) zero h = refl
-at0_in (x ∷ c) (suc k) h = at0_in c k (omega arith)
-
-at0_out : (c : List ℤ) (k : ℕ) → length c ≤ k → at0 c k ≡ None
-at0_out [] k h = refl
-at0_out (x ∷ c) zero h = absurd (omega arith)
-at0_out (x ∷ c) (suc k) h = at0_out c k (omega arith)
-
-len_some : (o : Option (List ℤ)) (n : ℕ) → Some n ≡ length_of o → (c : List ℤ) × (o ≡ Some c) × (length c ≡ n)
-len_some None n e = let z : ◌≡◌ {A = ℕ} 0 1 = cc in absurd (omega arith)
-len_some (Some c) n e = (c, refl, cc)
-
-pub pick_within : (ws : List ℤ) (from n k : ℕ) → Some n ≡ first_len (drop from ws) → k < n → from + k < length ws
-pick_within ws from n k e h =
-    let s = len_some (at0 (parse (drop from ws)) 0) n e in
-    let i = head_is (drop from ws) s.0 s.1 in
-    omega (arith, i.1, s.2, length-drop from ws)
-
-pub pick_in : (ws : List ℤ) (from n k : ℕ) → Some n ≡ first_len (drop from ws) → k < n → literal0 (at0 (parse (drop from ws)) 0) k ≡ Some (get_or ws (from + k) (pos 0))
-pick_in ws from n k e h =
-    let s = len_some (at0 (parse (drop from ws)) 0) n e in
-    let i = head_is (drop from ws) s.0 s.1 in
-    let l : k < length s.0 = omega (arith, s.2) in
-    ap (λ (o : Option (List ℤ)). literal0 o k) s.1
-    ∙ at0_in s.0 k l
-    ∙ ap (λ (c : List ℤ). Some (get_or c k (pos 0))) i.0
-    ∙ ap Some (get_or-take (length s.0) (drop from ws) k (pos 0) l ∙ get_or-drop from ws k (pos 0))
-
-pub pick_out : (ws : List ℤ) (from n k : ℕ) → Some n ≡ first_len (drop from ws) → n ≤ k → literal0 (at0 (parse (drop from ws)) 0) k ≡ None
-pick_out ws from n k e h =
-    let s = len_some (at0 (parse (drop from ws)) 0) n e in
-    ap (λ (o : Option (List ℤ)). literal0 o k) s.1 ∙ at0_out s.0 k (omega (arith, s.2))
+pub put_clause : (used : ℕ) (ws c ys : List ℤ) → ys ≡ c → used + length c + 1 ≤ length ws → ends true (take used ws) ≡ true → bad_clause 4096 c ≡ false → Put used ws c (put used ws c ys)
+put_clause used ws c ys e room closed good =
+    let end = used + length c in
+    let vs = put_mid used (end - used) ws ys in
+    let rs = set vs end (pos 0) in
+    let n : length c ≡ end - used = omega arith in
+    let k : length ys ≡ end - used = ap length e ∙ n in
+    let size : length vs ≡ length ws = grind (arith, common_steps) in
+    let long = length-set vs end (pos 0) ∙ size in
+    let is : take (end + 1) rs ≡ take used ws ++ (c ++ (pos 0 ∷ [])) =
+    take_more_set vs end (pos 0) (omega arith)
+    ∙ ap (λ xs. xs ++ (pos 0 ∷ [])) (take-put_mid used (end - used) ws ys end (omega (arith, ap length e)) (omega arith) ∙ ap (λ xs. take used ws ++ xs) e)
+    ∙ append_assoc (take used ws) c (pos 0 ∷ []) in
+    record {
+      long = long;
+      within = omega arith;
+      closed = ap (ends true) is ∙ ends_app true (take used ws) (c ++ (pos 0 ∷ [])) ∙ ends_app _ c (pos 0 ∷ []);
+      held =
+          ap parse is
+          ∙ (parse_app true (take used ws) (c ++ (pos 0 ∷ [])) closed).0
+          ∙ ap (λ cs. parse (take used ws) ++ cs) (parse_clause 4096 c [] (or_parts (ltb 130 (length c)) (any (bad_literal 4096) c) good).1);
+      rest = drop-set-lt (end + 1) vs end (pos 0) (omega arith) ∙ drop-put_mid used (end - used) ws ys (end + 1) (omega arith) (omega arith) k;
+    }
 
 -- a word in a closed row
 closed_at : (b : Bool) (ws : List ℤ) (i : ℕ) (x : ℤ) (ys : List ℤ) → ends b ws ≡ true → drop i ws ≡ x ∷ ys → ends (is_zero x) ys ≡ true
@@ -234,29 +131,11 @@ word_is (pos zero) ys h = refl
 word_is (pos (suc n)) ys h = (refl, (parse_app false ys [] h).1 refl)
 word_is (negsuc n) ys h = (refl, (parse_app false ys [] h).1 refl)
 
+-- the first word of a closed row
+pub word_read : (ws : List ℤ) (x : ℤ) (ys : List ℤ) → ends true ws ≡ true → ws ≡ x ∷ ys → Word x (parse ws) (parse ys)
+word_read ws x ys h e = subst (λ (zs : List ℤ). Word x (parse zs) (parse ys)) (sym e) (word_is x ys (sym (ap (ends true) e) ∙ h))
+
 pub reads_row : (ws : List ℤ) (i : ℕ) → ends true ws ≡ true → i < length ws → Word (get_or ws i (pos 0)) (parse (drop i ws)) (parse (drop (i + 1) ws))
 reads_row ws i h l =
     let e = drop_more ws i (pos 0) l in
     subst (λ (zs : List ℤ). Word (get_or ws i (pos 0)) (parse zs) (parse (drop (i + 1) ws))) (sym e) (word_is (get_or ws i (pos 0)) (drop (i + 1) ws) (closed_at true ws i (get_or ws i (pos 0)) (drop (i + 1) ws) h e))
-
--- a literal of the first clause, one word on
-pub pick_zero : (x : ℤ) (xs : List ℤ) (k : ℕ) → x ≡ pos 0 → literal0 (at0 (parse (x ∷ xs)) 0) k ≡ None
-pick_zero x xs k e = ap (λ (y : ℤ). literal0 (at0 (parse (y ∷ xs)) 0) k) e
-
-onto_first : (l : ℤ) (cs : List Clause) → some_clause cs ≡ true → literal0 (at0 (onto l cs) 0) 0 ≡ Some l
-onto_first l [] h = absurd (false≢true h)
-onto_first l (c ∷ cs) h = refl
-
-pub pick_first : (x : ℤ) (xs : List ℤ) → (x ≡ pos 0 → ⊥) → ends false xs ≡ true → literal0 (at0 (parse (x ∷ xs)) 0) 0 ≡ Some x
-pick_first (pos zero) xs ne h = absurd (ne refl)
-pick_first (pos (suc n)) xs ne h = onto_first (pos (suc n)) (parse xs) ((parse_app false xs [] h).1 refl)
-pick_first (negsuc n) xs ne h = onto_first (negsuc n) (parse xs) ((parse_app false xs [] h).1 refl)
-
-onto_later : (l : ℤ) (cs : List Clause) (k : ℕ) → literal0 (at0 (onto l cs) 0) (suc k) ≡ literal0 (at0 cs 0) k
-onto_later l [] k = refl
-onto_later l (c ∷ cs) k = refl
-
-pub pick_later : (x : ℤ) (xs : List ℤ) (k : ℕ) → (x ≡ pos 0 → ⊥) → literal0 (at0 (parse (x ∷ xs)) 0) (suc k) ≡ literal0 (at0 (parse xs) 0) k
-pick_later (pos zero) xs k ne = absurd (ne refl)
-pick_later (pos (suc n)) xs k ne = onto_later (pos (suc n)) (parse xs) k
-pick_later (negsuc n) xs k ne = onto_later (negsuc n) (parse xs) k

@@ -1,9 +1,8 @@
 -- Clauses as a row of words, a 0 after each.
-use Rattle.std.specs.Prelude.{◌≡◌, ℕ, zero, suc, ◌+◌, ◌*◌, ◌≤◌, Bool, true, false, cond, List, [], ◌∷◌, ◌++◌, length, drop, ℤ, pos, negsuc, Some, None, Option}
+use Rattle.std.specs.Prelude.{ℕ, zero, suc, ◌+◌, ◌*◌, ◌≤◌, Bool, true, false, cond, List, [], ◌∷◌, ◌++◌, length, ℤ, pos, negsuc}
 use Rattle.std.proofs.Common.{arith}
 use Rattle.std.proofs.lemmas.Bool.{cond_both}
 use Rattle.rules.specs.Clauses.{Clause, bad_clause}
-use Rattle.clauses.specs.Asked.{at0, at1}
 use Rattle.clauses.specs.Walk.{onto}
 
 -- the words of the clauses
@@ -34,13 +33,3 @@ word_cost c = cond (bad_clause 4096 c) 0 (length c + 1)
 
 pub word_cheap : (c : Clause) → word_cost c ≤ 8 * length c + 2
 word_cheap c = cond_both (bad_clause 4096 c) 0 (length c + 1) (λ n. n ≤ 8 * length c + 2) (λ e. omega arith) (λ e. omega arith)
-
--- r is where clause n begins, counted from 1
-abbrev pub Begins : List ℤ → ℕ → Option ℕ → Type 0
-Begins ws n (Some i) = at1 (parse ws) n ≡ at0 (parse (drop i ws)) 0
-Begins ws n None = at1 (parse ws) n ≡ None
-
--- literal k, counted from 0
-abbrev pub literal0 : Option Clause → ℕ → Option ℤ
-literal0 None k = None
-literal0 (Some c) k = at0 c k

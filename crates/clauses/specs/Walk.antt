@@ -1,6 +1,7 @@
 -- A walk over clauses, word by word: a literal at a time, and a 0 after each clause.
 use Rattle.std.specs.Prelude.{◌≡◌, ℕ, zero, suc, Bool, true, false, List, [], ◌∷◌, ℤ, pos, negsuc, Some, None, Option}
 use Rattle.rules.specs.Clauses.{Clause}
+use Rattle.clauses.specs.Asked.{at0, at1}
 
 -- the literal before the rest of its clause
 abbrev pub onto : ℤ → List Clause → List Clause
@@ -21,3 +22,8 @@ Word (negsuc n) cs ds = (cs ≡ onto (negsuc n) ds) × (some_clause ds ≡ true)
 abbrev pub Reads : List Clause → (ℕ → List Clause) → Option (ℤ × ℕ) → Type 0
 Reads cs rest None = cs ≡ []
 Reads cs rest (Some p) = Word p.0 cs (rest p.1)
+
+-- what asking where clause n begins gives, counted from 1, where `rest` says what is left at a place
+abbrev pub Begins : List Clause → (ℕ → List Clause) → ℕ → Option ℕ → Type 0
+Begins cs rest n None = at1 cs n ≡ None
+Begins cs rest n (Some place) = at1 cs n ≡ at0 (rest place) 0

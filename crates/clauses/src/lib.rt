@@ -2,7 +2,6 @@
 #![tactic(auto)]
 
 mod check;
-mod scan;
 mod sink;
 mod source;
 mod words;

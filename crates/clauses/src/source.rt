@@ -1,8 +1,8 @@
 // Where clauses are read from.
-ghost use Rattle.std.specs.Prelude.{◌≡◌, ℕ, List, length};
+ghost use Rattle.std.specs.Prelude.{◌≡◌, ℕ, ◌<◌, ◌≤◌, List, length, IfSome};
 ghost use Rattle.rules.specs.Clauses.{Clause};
 ghost use Rattle.clauses.specs.Asked.{Bounded, length_at, literal_at};
-ghost use Rattle.clauses.specs.Walk.{Reads};
+ghost use Rattle.clauses.specs.Walk.{Begins, Reads};
 
 // A source means a list of clauses and a widest variable. Questions change nothing.
 pub trait Source {
@@ -16,16 +16,11 @@ pub trait Source {
     // The clauses from a place on, the first of them from its literal there on.
     ghost rest: { Self → ℕ → List Clause };
 
+    // The last place that a walk can reach.
+    ghost end: { Self → ℕ };
+
     fn clause_count(&self) -> usize
         ensures counts_clauses { result ≡ length (held self.now) };
-
-    // The length of clause n, counted from 1.
-    fn clause_length(&self, n: usize) -> Option<usize>
-        ensures answers_length { result ≡ length_at (held self.now) n };
-
-    // Literal k of clause n, both counted from 1.
-    fn literal(&self, n: usize, k: usize) -> Option<i32>
-        ensures answers_literal { result ≡ literal_at (held self.now) n k };
 
     fn widest_variable(&self) -> usize
         ensures answers_widest { result ≡ widest self.now };
@@ -36,5 +31,57 @@ pub trait Source {
 
     // The word at a place, a literal or the 0 that closes a clause, and the place after it. One walk is linear in the literals.
     fn word_at(&self, place: usize) -> Option<(i32, usize)>
-        ensures reads_word { Reads (rest self.now place) (rest self.now) result };
+        ensures reads_word { Reads (rest self.now place) (rest self.now) result }
+        ensures goes_on { IfSome result (λ p. (place < p.1) × (p.1 ≤ end self.now)) };
+
+    // Where clause n begins, counted from 1.
+    fn clause_start(&self, n: usize) -> Option<usize>
+        ensures begins_clause { Begins (held self.now) (rest self.now) n result }
+    {
+        let mut left = n.checked_sub(1)?;
+        let mut place = self.first_place();
+        while left > 0 {
+            let (word, next) = self.word_at(place)?;
+            if word == 0 {
+                left -= 1;
+            }
+            place = next;
+        }
+        Some(place)
+    }
+
+    // The length of clause n, counted from 1.
+    fn clause_length(&self, n: usize) -> Option<usize>
+        ensures answers_length { result ≡ length_at (held self.now) n }
+    {
+        let mut length = 0;
+        let mut place = self.clause_start(n)?;
+        while let Some((word, next)) = self.word_at(place) {
+            if word == 0 {
+                return Some(length);
+            }
+            length += 1;
+            place = next;
+        }
+        None
+    }
+
+    // Literal k of clause n, both counted from 1.
+    fn literal(&self, n: usize, k: usize) -> Option<i32>
+        ensures answers_literal { result ≡ literal_at (held self.now) n k }
+    {
+        let mut left = k.checked_sub(1)?;
+        let mut place = self.clause_start(n)?;
+        while let Some((word, next)) = self.word_at(place) {
+            if word == 0 {
+                return None;
+            }
+            if left == 0 {
+                return Some(word);
+            }
+            left -= 1;
+            place = next;
+        }
+        None
+    }
 }

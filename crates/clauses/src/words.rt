@@ -8,6 +8,9 @@ pub mod asking;
 pub mod lending;
 pub mod taking;
 
+// The widest variable.
+const WIDEST: usize = 4096;
+
 // The first `used` words stand for clauses, of which there are `count`.
 #[derive(Drop)]
 pub struct WordSink<'a> {

@@ -1,10 +1,10 @@
 -- A literal written in place: its minus, its space, and its digits from the last to the first.
-use Rattle.std.proofs.Common.{◌≡◌, ℕ, ◌+◌, ◌-◌, ◌/◌, ◌%◌, ◌<◌, ◌≤◌, Bool, true, false, List, [], ◌∷◌, ◌++◌, length, get_or, take, drop, set, ℤ, pos, nat_abs, decimal, sym, refl, ap, ◌∙◌, ⊎_elim, arith}
+use Rattle.std.proofs.Common.{◌≡◌, ℕ, ◌+◌, ◌-◌, ◌/◌, ◌%◌, ◌<◌, ◌≤◌, Bool, true, false, List, [], ◌∷◌, ◌++◌, length, get_or, take, drop, set, ℤ, pos, nat_abs, decimal, sym, ap, ◌∙◌, ⊎_elim, arith}
 use lib.Signed.{lt_z}
 use mir.Val.{bool_byte}
 use Rattle.text.specs.Lines.{literal_text}
 use Rattle.std.proofs.lemmas.Fmt.{decimal_digit, decimal_step}
-use Rattle.std.proofs.lemmas.List.{append_assoc, length-append, length-set, length-take-le, drop_more, drop-set, drop_all, take-set, take-set-le, take_more_set, take_all, take-take, take_at, drop_at, take-append-drop, get_or_at, get_or-take, get_or-set_same}
+use Rattle.std.proofs.lemmas.List.{append_assoc, length-append, length-set, length-take-le, drop_more, drop-set, take-set-le, take_more_set, take-take, take_at, drop_at, take-append-drop, get_or_at, get_or-take}
 use Rattle.std.proofs.lemmas.Bool.{cases_lt, cases_Bool}
 use Rattle.text.proofs.Written.{one_digit, digit_more, literal_positive, literal_negative}
 
@@ -22,31 +22,15 @@ last_digit left small m e =
     ap (λ ds. get_or ds m 0) s ∙ get_or_at (decimal (left / 10)) (48 + left % 10) [] 0 m n)
     (cases_lt left 10)
 
--- j digits are written, and the others are those of left
-pub record Partly (ws D head : List ℕ) (first n j left : ℕ) (vs : List ℕ) : Type 0 where
+-- the digits from place i on are written, and the others are those of left
+pub record Partly (ws D head : List ℕ) (first n i left : ℕ) (vs : List ℕ) : Type 0 where
+  pub from : first ≤ i
+  pub upto : i ≤ first + n
   pub long : length vs ≡ length ws
   pub front : take first vs ≡ head
-  pub back : drop (first + (n - j)) vs ≡ drop (n - j) D ++ (32 ∷ drop (first + n + 1) ws)
-  pub number : j < n → decimal left ≡ take (n - j) D
+  pub back : drop i vs ≡ drop (i - first) D ++ (32 ∷ drop (first + n + 1) ws)
+  pub number : first < i → decimal left ≡ take (i - first) D
   pub small : left < 1000000
-
-pub begun : (v : List ℕ) (first n size : ℕ) → size < 1000000 → n ≡ length (decimal size) → first + n < length v → Partly (set v (first + n) 32) (decimal size) (take first (set v (first + n) 32)) first n 0 size (set v (first + n) 32)
-begun v first n size small whole room =
-    let D = decimal size in
-    let w = set v (first + n) 32 in
-    let none : n - 0 ≡ n = omega arith in
-    let long = length-set v (first + n) 32 in
-    record {
-      long = refl;
-      front = refl;
-      back =
-          ap (λ k. drop (first + k) w) none
-          ∙ drop_more w (first + n) 0 (omega arith)
-          ∙ ap (λ x. x ∷ drop (first + n + 1) w) (get_or-set_same v (first + n) 32 0 room)
-          ∙ sym (ap (λ k. drop k D ++ (32 ∷ drop (first + n + 1) w)) none ∙ ap (λ l. l ++ (32 ∷ drop (first + n + 1) w)) (drop_all n D (omega (arith, whole))));
-      number = λ l. sym (ap (λ k. take k D) none ∙ take_all n D (omega (arith, whole)));
-      small = small;
-    }
 
 -- the literal's parts: a minus or none, the digits, the space
 module _ (z l : ℤ) (m : ℕ) (is : z ≡ l) (size : m ≡ nat_abs z) where
@@ -63,68 +47,64 @@ module _ (z l : ℤ) (m : ℕ) (is : z ≡ l) (size : m ≡ nat_abs z) where
       (λ (y : lt_z z (pos 0) ≡ false). omega (arith, ap length (literal_positive l m (negative false y) same), length-append (decimal m) (32 ∷ []), ap bool_byte y, e))
       (cases_Bool (lt_z z (pos 0)))
 
-  pub literal_joined : (ws : List ℕ) (at : ℕ) → at < length ws → take (at + bool_byte (lt_z z (pos 0))) (set ws at 45) ++ (decimal m ++ (32 ∷ [])) ≡ take at ws ++ literal_text l
-  literal_joined ws at h =
+  pub literal_joined : (ws : List ℕ) → 0 < length ws → take (bool_byte (lt_z z (pos 0))) (set ws 0 45) ++ (decimal m ++ (32 ∷ [])) ≡ literal_text l
+  literal_joined ws h =
       ⊎_elim
       (λ (y : lt_z z (pos 0) ≡ true).
-      ap (λ (b : Bool). take (at + bool_byte b) (set ws at 45) ++ (decimal m ++ (32 ∷ []))) y
-      ∙ ap (λ xs. xs ++ (decimal m ++ (32 ∷ []))) (take_more_set ws at 45 h)
-      ∙ append_assoc (take at ws) (45 ∷ []) (decimal m ++ (32 ∷ []))
-      ∙ ap (λ xs. take at ws ++ xs) (sym (literal_negative l m (negative true y) same)))
+      ap (λ (b : Bool). take (bool_byte b) (set ws 0 45) ++ (decimal m ++ (32 ∷ []))) y
+      ∙ ap (λ xs. xs ++ (decimal m ++ (32 ∷ []))) (take_more_set ws 0 45 h)
+      ∙ sym (literal_negative l m (negative true y) same))
       (λ (y : lt_z z (pos 0) ≡ false).
-      ap (λ (b : Bool). take (at + bool_byte b) (set ws at 45) ++ (decimal m ++ (32 ∷ []))) y
-      ∙ ap (λ k. take k (set ws at 45) ++ (decimal m ++ (32 ∷ []))) (let e : at + 0 ≡ at = omega arith in e)
-      ∙ ap (λ xs. xs ++ (decimal m ++ (32 ∷ []))) (take-set ws at 45)
-      ∙ ap (λ xs. take at ws ++ xs) (sym (literal_positive l m (negative false y) same)))
+      ap (λ (b : Bool). take (bool_byte b) (set ws 0 45) ++ (decimal m ++ (32 ∷ []))) y
+      ∙ sym (literal_positive l m (negative false y) same))
       (cases_Bool (lt_z z (pos 0)))
 
-module _ (ws D head : List ℕ) (first n j left : ℕ) (vs : List ℕ) (h : Partly ws D head first n j left vs) (whole : length D ≡ n) where
-  module _ (l : j < n) (room : first + n < length ws) where
-    long_left : length (decimal left) ≡ n - j
-    long_left = ap length (h.number l) ∙ length-take-le (n - j) D (omega arith)
+module _ (ws D head : List ℕ) (first n i left : ℕ) (vs : List ℕ) (h : Partly ws D head first n i left vs) (whole : length D ≡ n) where
+  module _ (l : first < i) (room : first + n < length ws) where
+    long_left : length (decimal left) ≡ i - first
+    long_left = ap length (h.number l) ∙ length-take-le (i - first) D (omega (arith, h.upto, whole))
 
-    digit_here : get_or D (n - j - 1) 0 ≡ 48 + left % 10
+    digit_here : get_or D (i - 1 - first) 0 ≡ 48 + left % 10
     digit_here =
-        let m : length (decimal left) ≡ n - j - 1 + 1 = omega (arith, long_left) in
-        sym (get_or-take (n - j) D (n - j - 1) 0 (omega arith)) ∙ ap (λ ds. get_or ds (n - j - 1) 0) (sym (h.number l)) ∙ last_digit left h.small (n - j - 1) m
+        let m : length (decimal left) ≡ i - 1 - first + 1 = omega (arith, long_left) in
+        sym (get_or-take (i - first) D (i - 1 - first) 0 (omega arith)) ∙ ap (λ ds. get_or ds (i - 1 - first) 0) (sym (h.number l)) ∙ last_digit left h.small (i - 1 - first) m
 
-    pub more : Partly ws D head first n (j + 1) (left / 10) (set vs (first + (n - (j + 1))) (48 + left % 10))
+    pub more : Partly ws D head first n (i - 1) (left / 10) (set vs (i - 1) (48 + left % 10))
     more =
         let d = 48 + left % 10 in
-        let e : n - (j + 1) ≡ n - j - 1 = omega arith in
-        let up : n - j - 1 + 1 ≡ n - j = omega arith in
-        let place : first + (n - j - 1) + 1 ≡ first + (n - j) = omega arith in
+        let place : i - 1 + 1 ≡ i = omega arith in
+        let up : i - 1 - first + 1 ≡ i - first = omega arith in
         record {
-          long = length-set vs (first + (n - (j + 1))) d ∙ h.long;
-          front = take-set-le first vs (first + (n - (j + 1))) d (omega arith) ∙ h.front;
+          from = omega arith;
+          upto = omega (arith, h.upto);
+          long = length-set vs (i - 1) d ∙ h.long;
+          front = take-set-le first vs (i - 1) d (omega arith) ∙ h.front;
           back =
-              ap (λ x. drop (first + x) (set vs (first + x) d)) e
-              ∙ drop-set vs (first + (n - j - 1)) d (omega (arith, h.long))
+              drop-set vs (i - 1) d (omega (arith, h.long, h.upto))
               ∙ ap (λ x. d ∷ drop x vs) place
               ∙ ap (λ xs. d ∷ xs) h.back
-              ∙ ap (λ x. x ∷ (drop (n - j) D ++ (32 ∷ drop (first + n + 1) ws))) (sym digit_here)
-              ∙ ap (λ x. get_or D (n - j - 1) 0 ∷ (drop x D ++ (32 ∷ drop (first + n + 1) ws))) (sym up)
-              ∙ ap (λ xs. xs ++ (32 ∷ drop (first + n + 1) ws)) (sym (drop_more D (n - j - 1) 0 (omega arith)))
-              ∙ ap (λ x. drop x D ++ (32 ∷ drop (first + n + 1) ws)) (sym e);
+              ∙ ap (λ x. x ∷ (drop (i - first) D ++ (32 ∷ drop (first + n + 1) ws))) (sym digit_here)
+              ∙ ap (λ x. get_or D (i - 1 - first) 0 ∷ (drop x D ++ (32 ∷ drop (first + n + 1) ws))) (sym up)
+              ∙ ap (λ xs. xs ++ (32 ∷ drop (first + n + 1) ws)) (sym (drop_more D (i - 1 - first) 0 (omega (arith, h.upto, whole))));
           number = λ m.
               let ten : 10 ≤ left = ⊎_elim (λ (b : left < 10). absurd (omega (arith, one_digit left b, long_left))) (λ (g : 10 ≤ left). g) (cases_lt left 10) in
               let s = decimal_step left ten (omega (arith, h.small)) in
-              let n10 : length (decimal (left / 10)) ≡ n - (j + 1) = omega (arith, digit_more left ten h.small, long_left) in
-              sym (take_at (decimal (left / 10)) ((48 + left % 10) ∷ []) (n - (j + 1)) n10)
-              ∙ ap (take (n - (j + 1))) (sym s ∙ h.number l)
-              ∙ take-take (n - (j + 1)) (n - j) D (omega arith);
+              let n10 : length (decimal (left / 10)) ≡ i - 1 - first = omega (arith, digit_more left ten h.small, long_left) in
+              sym (take_at (decimal (left / 10)) ((48 + left % 10) ∷ []) (i - 1 - first) n10)
+              ∙ ap (take (i - 1 - first)) (sym s ∙ h.number l)
+              ∙ take-take (i - 1 - first) (i - first) D (omega arith);
           small = omega (arith, h.small);
         }
 
   -- all is written
-  module _ (l : n ≤ j) (room : first + n < length ws) where
+  module _ (l : i ≤ first) (room : first + n < length ws) where
     all : vs ≡ head ++ (D ++ (32 ∷ drop (first + n + 1) ws))
     all =
-        let z : n - j ≡ 0 = omega arith in
-        let f : first + (n - j) ≡ first = omega arith in
+        let at : i ≡ first = omega (arith, h.from) in
+        let none : i - first ≡ 0 = omega arith in
         sym (take-append-drop first vs)
         ∙ ap (λ xs. xs ++ drop first vs) h.front
-        ∙ ap (λ xs. head ++ xs) (ap (λ x. drop x vs) (sym f) ∙ h.back ∙ ap (λ x. drop x D ++ (32 ∷ drop (first + n + 1) ws)) z)
+        ∙ ap (λ xs. head ++ xs) (ap (λ x. drop x vs) (sym at) ∙ h.back ∙ ap (λ x. drop x D ++ (32 ∷ drop (first + n + 1) ws)) none)
 
     apart : vs ≡ (head ++ (D ++ (32 ∷ []))) ++ drop (first + n + 1) ws
     apart = all ∙ ap (λ xs. head ++ xs) (sym (append_assoc D (32 ∷ []) (drop (first + n + 1) ws))) ∙ sym (append_assoc head (D ++ (32 ∷ [])) (drop (first + n + 1) ws))

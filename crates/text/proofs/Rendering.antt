@@ -1,6 +1,6 @@
 -- Lines of text, as a sink keeps them.
-use Rattle.std.proofs.Common.{◌≡◌, ℕ, zero, suc, ◌+◌, ◌-◌, ◌<◌, ◌≤◌, Bool, true, false, cond, eqb, ltb, List, [], ◌∷◌, ◌++◌, length, get_or, take, drop, set, pos, sym, refl, ap, ◌∙◌, subst, arith}
-use Rattle.std.proofs.lemmas.List.{length-append, length-set, length-take-le, append_assoc, append-nil, take_all, take_more, take_more_set, drop-drop, drop-set-lt}
+use Rattle.std.proofs.Common.{◌≡◌, ℕ, zero, suc, ◌+◌, ◌-◌, ◌<◌, ◌≤◌, Bool, true, false, cond, eqb, ltb, List, [], ◌∷◌, ◌++◌, length, get_or, take, drop, pos, sym, refl, ap, ◌∙◌, subst, arith}
+use Rattle.std.proofs.lemmas.List.{length-append, length-take-le, append_assoc, append-nil, take_more, take_rest, length-drop, drop-drop}
 use Rattle.std.proofs.lemmas.Bool.{or_parts, cond-false, cond_both}
 use Rattle.rules.specs.Lists.{any, each}
 use Rattle.rules.specs.Clauses.{Clause, bad_clause, total}
@@ -10,7 +10,9 @@ use Rattle.clauses.proofs.Granting.{none_bad_push}
 use Rattle.text.specs.Lines.{literal_text, line_text, lines_text, text_cost}
 use Rattle.text.specs.Scan.{longer, signed_by, scan, numbers}
 use Rattle.text.specs.Words.{Shut}
+use borrow.Rule.Slice.PartMut.{put_mid}
 use Rattle.text.proofs.Scanning.{back, shut_lines}
+use Rattle.text.proofs.Tails.{tail_long, tail_take, tail_drop}
 
 each_push : {X Y : Type 0} (g : X → List Y) (xs : List X) (x : X) → each g (xs ++ (x ∷ [])) ≡ each g xs ++ g x
 each_push g [] x = append-nil (g x)
@@ -66,13 +68,8 @@ scan_le m a (b ∷ bs) =
 pub few : (bs : List ℕ) (used : ℕ) → used ≤ length bs → length (parse (numbers (take used bs))) ≤ used
 few bs used h = omega (arith, count_le (numbers (take used bs)), scan_le false 0 (take used bs), length-take-le used bs h)
 
-pub drop_later : {X : Type 0} (xs ys : List X) (n k : ℕ) → drop n xs ≡ drop n ys → n ≤ k → drop k xs ≡ drop k ys
-drop_later xs ys n k e l =
-    let m : n + (k - n) ≡ k = omega arith in
-    ap (λ j. drop j xs) (sym m) ∙ sym (drop-drop (k - n) n xs) ∙ ap (drop (k - n)) e ∙ drop-drop (k - n) n ys ∙ ap (λ j. drop j ys) m
-
-pub room_here : (used : ℕ) (c : Clause) (i size : ℕ) → i < length c → used + length (line_text c) ≤ size → used + length (each literal_text (take i c)) + length (literal_text (get_or c i (pos 0))) ≤ size
-room_here used c i size h l =
+pub room_here : (c : Clause) (i size : ℕ) → i < length c → length (line_text c) ≤ size → length (each literal_text (take i c)) + length (literal_text (get_or c i (pos 0))) ≤ size
+room_here c i size h l =
     omega (
       arith,
       ap length (literals_more c i h),
@@ -81,41 +78,21 @@ room_here used c i size h l =
       length-append (each literal_text c) (48 ∷ 10 ∷ []),
     )
 
-put_two : (vs : List ℕ) (at : ℕ) → at + 1 < length vs → take (at + 2) (set (set vs at 48) (at + 1) 10) ≡ take at vs ++ (48 ∷ 10 ∷ [])
-put_two vs at l =
-    let two : at + 2 ≡ at + 1 + 1 = omega arith in
-    let one : at < length vs = omega arith in
-    ap (λ n. take n (set (set vs at 48) (at + 1) 10)) two
-    ∙ take_more_set (set vs at 48) (at + 1) 10 (omega (arith, length-set vs at 48))
-    ∙ ap (λ bs. bs ++ (10 ∷ [])) (take_more_set vs at 48 one)
-    ∙ append_assoc (take at vs) (48 ∷ []) (10 ∷ [])
-
--- the line is written, up to `end`
-pub record Done (used : ℕ) (ws : List ℕ) (c : Clause) (end : ℕ) (rs : List ℕ) : Type 0 where
+-- the line of c, n bytes, is written after the bytes in use
+pub record Put (used : ℕ) (ws : List ℕ) (c : Clause) (n : ℕ) (rs : List ℕ) : Type 0 where
   pub long : length rs ≡ length ws
-  pub within : end ≤ length rs
-  pub more : More (take used ws) (take end rs) c
-  pub rest : drop end rs ≡ drop (length (line_text c)) (drop used ws)
+  pub within : used + n ≤ length rs
+  pub more : More (take used ws) (take (used + n) rs) c
+  pub rest : drop (used + n) rs ≡ drop n (drop used ws)
 
-pub finish : (used : ℕ) (ws : List ℕ) (c : Clause) (at i : ℕ) (vs : List ℕ) → lines_text (parse (numbers (take used ws))) ≡ take used ws → any (bad_clause 999999) (parse (numbers (take used ws))) ≡ false → bad_clause 999999 c ≡ false → used + length (line_text c) ≤ length ws → length c ≤ i → length vs ≡ length ws → at ≡ used + length (each literal_text (take i c)) → take at vs ≡ take used ws ++ each literal_text (take i c) → drop (used + length (line_text c)) vs ≡ drop (used + length (line_text c)) ws → Done used ws c (at + 2) (set (set vs at 48) (at + 1) 10)
-finish used ws c at i vs e g b room last long where-at holds rest =
-    let all = ap (each literal_text) (take_all i c last) in
-    let two = length-append (each literal_text c) (48 ∷ 10 ∷ []) in
-    let end : at + 2 ≡ used + length (line_text c) = omega (arith, where-at, ap length all, two) in
-    let in-vs : at + 1 < length vs = omega arith in
-    let size = length-set (set vs at 48) (at + 1) 10 ∙ length-set vs at 48 in
-    let is : take (at + 2) (set (set vs at 48) (at + 1) 10) ≡ take used ws ++ line_text c =
-    put_two vs at in-vs
-    ∙ ap (λ bs. bs ++ (48 ∷ 10 ∷ [])) (holds ∙ ap (λ bs. take used ws ++ bs) all)
-    ∙ append_assoc (take used ws) (each literal_text c) (48 ∷ 10 ∷ []) in
+pub put_line : (used : ℕ) (ws ys : List ℕ) (c : Clause) (n : ℕ) → used ≤ length ws → lines_text (parse (numbers (take used ws))) ≡ take used ws → any (bad_clause 999999) (parse (numbers (take used ws))) ≡ false → bad_clause 999999 c ≡ false → n ≤ length ws - used → length ys ≡ length (take (length ws - used) (drop used ws)) → take n ys ≡ line_text c → drop n ys ≡ drop n (take (length ws - used) (drop used ws)) → Put used ws c n (put_mid used (length ws - used) ws ys)
+put_line used ws ys c n in-ws e g b room long line rest =
+    let tail = take_rest ws used in
+    let size = long ∙ ap length tail ∙ length-drop used ws in
+    let whole = tail_long ws ys used in-ws size in
     record {
-      long = size ∙ long;
-      within = omega (arith, size);
-      more = line_more (take used ws) (take (at + 2) (set (set vs at 48) (at + 1) 10)) c e g b is;
-      rest =
-          drop-set-lt (at + 2) (set vs at 48) (at + 1) 10 (omega arith)
-          ∙ drop-set-lt (at + 2) vs at 48 (omega arith)
-          ∙ ap (λ n. drop n vs) end
-          ∙ rest
-          ∙ sym (drop-drop (length (line_text c)) used ws);
+      long = whole;
+      within = omega arith;
+      more = line_more (take used ws) _ c e g b (tail_take ws ys used in-ws size n ∙ ap (λ bs. take used ws ++ bs) line);
+      rest = tail_drop ws ys used in-ws size n (used + n) (omega arith) (rest ∙ ap (drop n) tail) ∙ sym (drop-drop n used ws);
     }

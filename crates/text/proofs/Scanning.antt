@@ -1,22 +1,20 @@
 -- What is scanned of a text that was written.
-use Rattle.std.proofs.Common.{◌≡◌, ℕ, zero, suc, ◌+◌, ◌-◌, ◌*◌, ◌%◌, ◌<◌, ◌≤◌, Bool, true, false, cond, eqb, ltb, List, [], ◌∷◌, ◌++◌, length, get_or, drop, ℤ, pos, negsuc, nat_abs, Some, None, decimal, Option, sym, refl, ap, ◌∙◌, subst, mod-eq_of_lt, arith, rules}
+use Rattle.std.proofs.Common.{◌≡◌, ℕ, zero, suc, ◌+◌, ◌-◌, ◌*◌, ◌%◌, ◌<◌, ◌≤◌, Bool, true, false, cond, eqb, ltb, List, [], ◌∷◌, ◌++◌, length, ℤ, pos, negsuc, nat_abs, decimal, sym, refl, ap, ◌∙◌, subst, mod-eq_of_lt, arith, rules}
 use Rattle.std.specs.Char.{is_ascii_digit}
 use Rattle.std.specs.Fmt.{signed_decimal}
 use Rattle.std.specs.Str.{all_ascii_digits}
 use Rattle.std.proofs.lemmas.Fmt.{digits_decimal, digits_value-decimal}
-use Rattle.std.proofs.lemmas.List.{append_assoc, at_drop_more}
+use Rattle.std.proofs.lemmas.List.{append_assoc}
 use Rattle.std.proofs.lemmas.Str.Parse.{IsNumeralModel, numerals_by_fold}
-use Rattle.std.proofs.lemmas.Bool.{and_parts, or_parts, leb-true, le-ltb, lt-ltb, eq-eqb, ne_eqb, cond-true, cond-false, cond_both}
+use Rattle.std.proofs.lemmas.Bool.{and_parts, or_parts, leb-true, le-ltb, ne_eqb, cond-false, cond_both}
 use Rattle.rules.specs.Lists.{any, each}
 use Rattle.rules.specs.Clauses.{Clause, bad_literal, bad_clause}
-use Rattle.clauses.specs.Asked.{at0}
-use Rattle.clauses.specs.Walk.{Word, Reads}
-use Rattle.clauses.specs.Rows.{parse, flat, ends, is_zero, literal0}
-use Rattle.clauses.proofs.Rows.{parse_flat, ends_app, word_is, pick_first}
+use Rattle.clauses.specs.Rows.{parse, flat, ends, is_zero}
+use Rattle.clauses.proofs.Rows.{parse_flat, ends_app}
 use Rattle.text.specs.Bounds.{size_of}
 use Rattle.text.specs.Lines.{literal_text, line_text, lines_text}
 use Rattle.text.specs.Scan.{longer, signed_by, scan, numbers}
-use Rattle.text.specs.Words.{Next, Shut}
+use Rattle.text.specs.Words.{Shut}
 
 abbrev read_on : ℕ → List ℕ → ℕ
 read_on n [] = n
@@ -113,33 +111,3 @@ pub shut_lines : (cs : List Clause) → any (bad_clause 999999) cs ≡ false →
 shut_lines [] h zero = refl
 shut_lines [] h (suc p) = refl
 shut_lines (c ∷ cs) h p = shut_line c (lines_text cs) (good_literals c cs h) (shut_lines cs (good_others c cs h)) p
-
--- one byte on
-pub step_end : (m : Bool) (a : ℕ) (bs : List ℕ) (i : ℕ) → i < length bs → get_or bs i 0 < 33 → scan m a (drop i bs) ≡ signed_by m a ∷ numbers (drop (i + 1) bs)
-step_end m a bs i h l = at_drop_more (scan m a) bs i 0 h ∙ cond-true (ltb (get_or bs i 0) 33) _ _ (lt-ltb (get_or bs i 0) 33 l)
-
-pub step_minus : (m : Bool) (a : ℕ) (bs : List ℕ) (i : ℕ) → i < length bs → get_or bs i 0 ≡ 45 → scan m a (drop i bs) ≡ scan true a (drop (i + 1) bs)
-step_minus m a bs i h e =
-    let wide : 33 ≤ get_or bs i 0 = omega arith in
-    at_drop_more (scan m a) bs i 0 h ∙ cond-false (ltb (get_or bs i 0) 33) _ _ (le-ltb (get_or bs i 0) 33 wide) ∙ cond-true (eqb (get_or bs i 0) 45) _ _ (eq-eqb (get_or bs i 0) 45 e)
-
-pub step_digit : (m : Bool) (a : ℕ) (bs : List ℕ) (i : ℕ) → i < length bs → 33 ≤ get_or bs i 0 → (get_or bs i 0 ≡ 45 → ⊥) → scan m a (drop i bs) ≡ scan m (longer a (get_or bs i 0)) (drop (i + 1) bs)
-step_digit m a bs i h wide ne = at_drop_more (scan m a) bs i 0 h ∙ cond-false (ltb (get_or bs i 0) 33) _ _ (le-ltb (get_or bs i 0) 33 wide) ∙ cond-false (eqb (get_or bs i 0) 45) _ _ (ne_eqb (get_or bs i 0) 45 ne)
-
--- the next word, as a walk reads it
-pub reads : (text : List ℕ) (place : ℕ) (r : Option (ℤ × ℕ)) → Shut text → Next text place r → Reads (parse (numbers (drop place text))) (λ p. parse (numbers (drop p text))) r
-reads text place None s n = ap parse n
-reads text place (Some p) s n =
-    subst (λ (ws : List ℤ). Word p.0 (parse ws) (parse (numbers (drop p.1 text)))) (sym n.0)
-    (word_is p.0 (numbers (drop p.1 text)) (sym (ap (ends true) n.0) ∙ s place))
-
-not_zero : (x : ℤ) → (x ≡ pos 0 → ⊥) → is_zero x ≡ false
-not_zero (pos zero) ne = absurd (ne refl)
-not_zero (pos (suc n)) ne = refl
-not_zero (negsuc n) ne = refl
-
--- the first literal of a closed row
-pub pick_here : (ws : List ℤ) (x : ℤ) (xs : List ℤ) → ends true ws ≡ true → ws ≡ x ∷ xs → (x ≡ pos 0 → ⊥) → literal0 (at0 (parse ws) 0) 0 ≡ Some x
-pick_here ws x xs h e ne =
-    ap (λ (zs : List ℤ). literal0 (at0 (parse zs) 0) 0) e
-    ∙ pick_first x xs ne (ap (λ b. ends b xs) (sym (not_zero x ne)) ∙ sym (ap (ends true) e) ∙ h)

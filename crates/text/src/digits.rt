@@ -5,8 +5,9 @@ ghost use Rattle.text.specs.Lines.{literal_text, line_text};
 
 // How many digits a number has.
 pub(crate) fn digit_count(n: u32) -> usize
-    requires { n < 1000000 }
+    requires small { n < 1000000 }
     ensures counts_digits { result ≡ length (decimal n) }
+    ensures few_digits { result ≤ 6 }
 {
     // A sum of tests, since which of them hold cannot be foreseen.
     1 + (n >= 10) as usize
@@ -18,8 +19,9 @@ pub(crate) fn digit_count(n: u32) -> usize
 
 // The bytes of a literal and its space.
 fn literal_cost(l: i32) -> usize
-    requires { bad_literal 999999 l ≡ false }
+    requires good { bad_literal 999999 l ≡ false }
     ensures counts_bytes { result ≡ length (literal_text l) }
+    ensures few_bytes { result ≤ 8 }
 {
     let digits = digit_count(l.unsigned_abs());
     if l < 0 { digits + 2 } else { digits + 1 }
@@ -27,19 +29,19 @@ fn literal_cost(l: i32) -> usize
 
 // The bytes of a clause's line.
 pub(crate) fn line_cost(clause: &[i32]) -> usize
-    requires { bad_clause 999999 clause.now ≡ false }
+    requires good { bad_clause 999999 clause.now ≡ false }
     ensures counts_line { result ≡ length (line_text clause.now) }
 {
     let mut cost = 2;
-    for i in 0..clause.len() {
-        cost += literal_cost(clause[i]);
+    for l in clause {
+        cost += literal_cost(*l);
     }
     cost
 }
 
 // Whether a clause's line fits into so many bytes; it is counted only where it might not.
 pub(crate) fn line_fits(clause: &[i32], left: usize) -> bool
-    requires { bad_clause 999999 clause.now ≡ false }
+    requires good { bad_clause 999999 clause.now ≡ false }
     ensures fits_line { result ≡ nat_le (length (line_text clause.now)) left }
 {
     if left >= 8 * clause.len() + 2 {

@@ -4,6 +4,7 @@
 mod digits;
 mod lines;
 mod reading;
+mod writing;
 
 pub use lines::TextSink;
 pub use lines::lending::text_sink;

@@ -10,6 +10,9 @@ pub mod asking;
 pub mod lending;
 pub mod taking;
 
+// The widest variable.
+const WIDEST: usize = 999_999;
+
 // The first `used` bytes are the lines of the clauses, of which there are `count`.
 #[derive(Drop)]
 pub struct TextSink<'a> {

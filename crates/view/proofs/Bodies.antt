@@ -1,19 +1,16 @@
 -- Words complete clauses exactly where they are the clauses' numbers, written.
-use Rattle.std.proofs.Common.{◌≡◌, ℕ, zero, suc, ◌+◌, ◌^◌, ◌<◌, ◌≤◌, Bool, true, false, cond, ◌&&◌, eqb, ltb, List, [], ◌∷◌, ◌++◌, map, length, drop, ℤ, pos, negsuc, neg_ℤ, nat_abs, Some, None, Option, sym, refl, ap, ◌∙◌, arith}
+use Rattle.std.proofs.Common.{◌≡◌, ℕ, zero, suc, ◌+◌, ◌^◌, ◌<◌, ◌≤◌, Bool, true, false, ◌&&◌, eqb, ltb, List, [], ◌∷◌, ◌++◌, map, length, ℤ, pos, negsuc, nat_abs, Some, None, Option, refl, ap, ◌∙◌, arith}
 use Rattle.std.specs.Fmt.{signed_decimal}
 use Rattle.std.proofs.lemmas.Fmt.{decimal_digit}
-use Rattle.std.proofs.lemmas.Bool.{or_parts, or_from, and_parts, and_left, eqb-true, eq-eqb, ne_eqb, eqb-false, ltb-true, lt-ltb, ltb-false, le-ltb, false≢true}
+use Rattle.std.proofs.lemmas.Bool.{or_parts, or_from, and_parts, eqb-true, eq-eqb, ne_eqb, eqb-false, ltb-true, lt-ltb, ltb-false, le-ltb, false≢true}
 use Rattle.rules.specs.Lists.{any}
 use Rattle.rules.specs.Clauses.{Clause, bad_literal, bad_clause}
 use Rattle.clauses.specs.Rows.{flat, parse}
 use Rattle.clauses.proofs.Rows.{parse_flat}
 use Rattle.lines.specs.Numbers.{number_of}
-use Rattle.lines.specs.declared.numeral.Numeral.{Numeral}
-use Rattle.lines.specs.Reading.{value, Reading}
 use Rattle.lines.proofs.Numerals.{only, back}
 use Rattle.view.specs.Body.{or_zero, value_of, by_number, completes, is_nought, shuts}
 use Rattle.view.specs.Bounds.{none_bad_within}
-use Rattle.view.specs.Words.{words_of, NextWord}
 
 -- what words say that complete the clauses cs
 pub record Said (v count : ℕ) (ws : List (List ℕ)) (cs : List Clause) : Type 0 where
@@ -173,58 +170,3 @@ shuts_all (c ∷ cs) = shuts_clause true c (flat cs) ∙ shuts_all cs
 
 pub said_shuts : (v count : ℕ) (ws : List (List ℕ)) (cs : List Clause) → Said v count ws cs → shuts true ws ≡ true
 said_shuts v count ws cs s = ap (shuts true) s.written ∙ shuts_all cs
-
--- a turn of the check
-
-size_of_value : (m : Bool) (s : ℕ) → nat_abs (cond m (neg_ℤ (pos s)) (pos s)) ≡ s
-size_of_value true zero = refl
-size_of_value true (suc s) = refl
-size_of_value false s = refl
-
-nothing : (m : Bool) (s : ℕ) → s ≡ 0 → cond m (neg_ℤ (pos s)) (pos s) ≡ pos 0
-nothing true s e = ap (λ n. neg_ℤ (pos n)) e
-nothing false s e = ap pos e
-
-module _ (v count : ℕ) (body : List ℕ) (place closed long : ℕ) (inv : completes v count 0 0 (words_of body) ≡ completes v count closed long (words_of (drop place body))) (word : List ℕ) (end : ℕ) (next : NextWord body place word end) where
-  abbrev after : List (List ℕ)
-  after = words_of (drop end body)
-
-  turn : (o : Option ℤ) → number_of v word ≡ o → completes v count 0 0 (words_of body) ≡ by_number o (completes v count (closed + 1) 0 after) (ltb long 130 && completes v count closed (long + 1) after)
-  turn o e =
-      inv
-      ∙ ap (completes v count closed long) next.cuts
-      ∙ ap (λ p. by_number p (completes v count (closed + 1) 0 after) (ltb long 130 && completes v count closed (long + 1) after)) e
-
-  pub turn_refused : number_of v word ≡ None → false ≡ completes v count 0 0 (words_of body)
-  turn_refused e = sym (turn None e)
-
-  module _ (n : Numeral) (r : Reading v word n) where
-    pub turn_close : n.size ≡ 0 → completes v count 0 0 (words_of body) ≡ completes v count (closed + 1) 0 after
-    turn_close z = turn (Some (pos 0)) (r.is ∙ ap Some (nothing n.minus n.size z))
-
-    module _ (some : n.size ≡ 0 → ⊥) where
-      literal : completes v count 0 0 (words_of body) ≡ (ltb long 130 && completes v count closed (long + 1) after)
-      literal =
-          let e = size_of_value n.minus n.size in
-          let positive : 0 < nat_abs (value n) = more (nat_abs (value n)) (λ q. some (sym e ∙ q)) in
-          turn (Some (value n)) r.is ∙ by_literal (value n) (completes v count (closed + 1) 0 after) (ltb long 130 && completes v count closed (long + 1) after) positive
-        where
-          more : (k : ℕ) → (k ≡ 0 → ⊥) → 0 < k
-          more k ne = omega arith
-
-      pub turn_long : long ≡ 130 → false ≡ completes v count 0 0 (words_of body)
-      turn_long l = sym (literal ∙ and_left (ltb long 130) (completes v count closed (long + 1) after) (le-ltb long 130 (omega arith)))
-
-      pub turn_literal : long < 130 → completes v count 0 0 (words_of body) ≡ completes v count closed (long + 1) after
-      turn_literal l = literal ∙ ap (λ b. b && completes v count closed (long + 1) after) (lt-ltb long 130 l)
-
--- no word is left
-module _ (v count : ℕ) (body : List ℕ) (place closed long : ℕ) (inv : completes v count 0 0 (words_of body) ≡ completes v count closed long (words_of (drop place body))) (none : words_of (drop place body) ≡ []) where
-  over : completes v count 0 0 (words_of body) ≡ (eqb long 0 && eqb closed count)
-  over = inv ∙ ap (completes v count closed long) none
-
-  pub over_closed : long ≡ 0 → eqb closed count ≡ completes v count 0 0 (words_of body)
-  over_closed e = sym (over ∙ ap (λ b. b && eqb closed count) (eq-eqb long 0 e))
-
-  pub over_open : (long ≡ 0 → ⊥) → eqb long 0 ≡ completes v count 0 0 (words_of body)
-  over_open ne = let f = ne_eqb long 0 ne in f ∙ sym (over ∙ and_left (eqb long 0) (eqb closed count) f)

@@ -1,10 +1,9 @@
 -- Comments and the head line, cut line by line.
-use Rattle.std.proofs.Common.{◌≡◌, ℕ, ◌+◌, ◌-◌, ◌<◌, ◌≤◌, Bool, true, false, ◌||◌, eqb, List, [], ◌∷◌, ◌++◌, length, get_or, take, drop, Some, None, decimal, sym, refl, ap, ◌∙◌, subst, append_assoc, arith}
+use Rattle.std.proofs.Common.{◌≡◌, ℕ, ◌<◌, ◌≤◌, Bool, true, false, ◌||◌, eqb, List, [], ◌∷◌, ◌++◌, get_or, Some, None, decimal, sym, refl, ap, ◌∙◌, subst, append_assoc, arith}
 use Rattle.std.specs.Char.{is_ascii_digit}
-use Rattle.std.specs.List.{between, AllByRecursion}
+use Rattle.std.specs.List.{AllByRecursion}
 use Rattle.std.specs.Str.{all_ascii_digits}
-use Rattle.std.proofs.lemmas.List.{take_more, take_all, take-append-drop, drop_more, append_cancel_left, length-append}
-use Rattle.std.proofs.lemmas.Slice.{between_to_end}
+use Rattle.std.proofs.lemmas.List.{append_cancel_left}
 use Rattle.std.proofs.lemmas.Bool.{or_from, or_left, or_parts, and_parts, eq-eqb, ne_eqb, leb-true, both_ways}
 use Rattle.rules.specs.Lists.{has}
 use Rattle.lines.specs.Cut.{Unended, Cut, ended}
@@ -63,16 +62,6 @@ line_first : (l : List ℕ) (ls : List (List ℕ)) (t : List ℕ) → ended (l �
 line_first l ls t = append_assoc (l ++ (10 ∷ [])) (ended ls) t ∙ append_assoc l (10 ∷ []) (ended ls ++ t)
 
 module _ (text : List ℕ) (v c : ℕ) (body : List ℕ) where
-  -- a head without comments is the first line
-  pub headed_first : v ≤ 999999 → c ≤ 999999 → (line : List ℕ) → Cut text line body → line ≡ head_line v c → Headed text v c body
-  headed_first hv hc line cut e = record {
-    comments = [];
-    whole = tt;
-    narrow = hv;
-    few = hc;
-    is = cut.parts ∙ ap (λ l. l ++ (10 ∷ body)) e ∙ sym (line_first (head_line v c) [] body);
-  }
-
   -- a comment before a headed text
   pub headed_more : (bytes rest : List ℕ) → Cut text (comment bytes) rest → Headed rest v c body → Headed text v c body
   headed_more bytes rest cut h = record {
@@ -143,40 +132,12 @@ headed_once text v w c d a b h k = go text h.comments h.whole h.is k
         let cut : Cut t (comment n) (ended (top ns v c) ++ a) = record { inside = m.0; parts = e ∙ line_first (comment n) (top ns v c) a } in
         go (ended (top ns v c) ++ a) ns m.1 refl (past_comment t (comment n) (ended (top ns v c) ++ a) cut n refl w d b g)
 
--- the first space
-
-pub clear_more : (bs : List ℕ) (n : ℕ) → n < length bs → has 32 (take n bs) ≡ false → (get_or bs n 0 ≡ 32 → ⊥) → has 32 (take (n + 1) bs) ≡ false
-clear_more bs n lt h ne =
-    ap (has 32) (take_more bs n 0 lt) ∙ has_append 32 (take n bs) (get_or bs n 0 ∷ []) h (or_from (eqb 32 (get_or bs n 0)) false (ne_eqb 32 (get_or bs n 0) (λ e. ne (sym e))) refl)
-
-pub clear_all : (bs : List ℕ) (n : ℕ) → length bs ≤ n → has 32 (take n bs) ≡ false → has 32 bs ≡ false
-clear_all bs n l h = ap (has 32) (sym (take_all n bs l)) ∙ h
-
-pub split_at : (bs : List ℕ) (n : ℕ) → n < length bs → has 32 (take n bs) ≡ false → get_or bs n 0 ≡ 32 → Split bs (take (n - 0) bs) (between (n + 1) (length bs) bs)
-split_at bs n lt h e =
-    let z : n ≡ n - 0 = omega arith in
-    let back = between_to_end bs (n + 1) (length bs) (omega arith) in
-    record {
-      clear = subst (λ m. has 32 (take m bs) ≡ false) z h;
-      parts =
-          sym (take-append-drop n bs)
-          ∙ ap (λ t. take n bs ++ t) (drop_more bs n 0 lt ∙ ap (λ b. b ∷ drop (n + 1) bs) e)
-          ∙ ap (λ m. take m bs ++ (32 ∷ drop (n + 1) bs)) z
-          ∙ ap (λ t. take (n - 0) bs ++ (32 ∷ t)) (sym back);
-    }
-
 -- the head line
 
 module _ (line : List ℕ) where
-  pub head_unmarked : ((rest : List ℕ) → line ≡ head_mark ++ rest → ⊥) → ReadsHead line None
-  head_unmarked none v c hv hc e = none _ e
-
   module _ (rest : List ℕ) (mark : line ≡ head_mark ++ rest) where
     after_mark : (v c : ℕ) → line ≡ head_line v c → rest ≡ decimal v ++ (32 ∷ decimal c)
     after_mark v c e = append_cancel_left head_mark rest (decimal v ++ (32 ∷ decimal c)) (sym mark ∙ e)
-
-    pub head_unsplit : has 32 rest ≡ false → ReadsHead line None
-    head_unsplit h v c hv hc e = both_ways (has 32 rest) h (ap (has 32) (after_mark v c e) ∙ has_end 32 (decimal v) (decimal c))
 
     module _ (front back : List ℕ) (s : Split rest front back) where
       parts_are : (v c : ℕ) → v ≤ 999999 → line ≡ head_line v c → (front ≡ decimal v) × (back ≡ decimal c)
@@ -199,13 +160,7 @@ module _ (line : List ℕ) where
 
 -- a turn of the front
 
-cut_less : (t line rest : List ℕ) → Cut t line rest → length rest < length t
-cut_less t line rest cut = omega (arith, ap length cut.parts, length-append line (10 ∷ rest))
-
 module _ (text left line rest : List ℕ) (cut : Cut left line rest) (to : (v c : ℕ) (body : List ℕ) → Headed text v c body → Headed left v c body) (from : (v c : ℕ) (body : List ℕ) → Headed left v c body → Headed text v c body) where
-  pub front_less : length rest < length left
-  front_less = cut_less left line rest cut
-
   module _ (first : get_or line 0 0 ≡ 99) where
     begins : (l : List ℕ) → get_or l 0 0 ≡ 99 → (bytes : List ℕ) × (l ≡ comment bytes)
     begins [] e = absurd (omega arith)
@@ -221,10 +176,3 @@ module _ (text left line rest : List ℕ) (cut : Cut left line rest) (to : (v c 
   module _ (other : get_or line 0 0 ≡ 99 → ⊥) where
     pub front_none : ReadsHead line None → Unheaded text
     front_none none v c body h = let a = at_head left line rest cut other v c body (to v c body h) in none v c a.0 a.1 a.2
-
-  pub front_read : (v c : ℕ) → ReadsHead line (Some (v, c)) → Headed text v c rest
-  front_read v c r = from v c rest (headed_first left v c rest r.0 r.1 line cut r.2)
-
-pub no_comment : (l : List ℕ) → length l ≡ 0 → false ≡ eqb (get_or l 0 0) 99
-no_comment [] e = refl
-no_comment (b ∷ bs) e = absurd (omega arith)

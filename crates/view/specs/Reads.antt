@@ -1,8 +1,7 @@
 -- What the readers of clause text answer.
-use Rattle.std.specs.Prelude.{◌≡◌, ℕ, ◌<◌, ◌≤◌, true, false, List, [], ◌∷◌, ◌++◌, length, drop, ℤ, Some, None, Option, ◌≢◌}
+use Rattle.std.specs.Prelude.{◌≡◌, ℕ, ◌≤◌, true, false, List, ◌∷◌, ◌++◌, drop, Some, None, Option, ◌≢◌}
 use Rattle.rules.specs.Lists.{has}
-use Rattle.clauses.specs.Asked.{at0, at1}
-use Rattle.clauses.specs.Rows.{parse, ends}
+use Rattle.clauses.specs.Rows.{ends}
 use Rattle.view.specs.Body.{numbers}
 use Rattle.view.specs.Format.{head_line, Headed}
 
@@ -19,16 +18,6 @@ ReadsHead line (Some p) = (p.0 ≤ 999999) × (p.1 ≤ 999999) × (line ≡ head
 -- no comments and head line stand before any body
 abbrev pub Unheaded : List ℕ → Type 0
 Unheaded text = (v c : ℕ) (body : List ℕ) → Headed text v c body → ⊥
-
--- the next number from a place on, and the place after it
-abbrev pub Next : List ℕ → ℕ → Option (ℤ × ℕ) → Type 0
-Next text place None = numbers (drop place text) ≡ []
-Next text place (Some p) = (numbers (drop place text) ≡ p.0 ∷ numbers (drop p.1 text)) × (place < p.1) × (p.1 ≤ length text)
-
--- r is where clause n begins, counted from 1
-abbrev pub Found : List ℕ → ℕ → Option ℕ → Type 0
-Found text n (Some i) = at1 (parse (numbers text)) n ≡ at0 (parse (numbers (drop i text))) 0
-Found text n None = at1 (parse (numbers text)) n ≡ None
 
 -- from each place on, the last number is the 0 of a clause
 abbrev pub Shut : List ℕ → Type 0

@@ -1,5 +1,5 @@
 -- Words of text: the longest runs of bytes that are neither a space nor a line feed.
-use Rattle.std.specs.Prelude.{◌≡◌, ℕ, ◌<◌, ◌≤◌, Bool, false, cond, not, ◌||◌, List, [], ◌∷◌, length, drop, Some, None, Option, ◌==◌, slice_index}
+use Rattle.std.specs.Prelude.{◌≡◌, ℕ, ◌-◌, ◌<◌, Bool, false, cond, not, ◌||◌, List, [], ◌∷◌, length, drop, ◌==◌}
 
 -- a space or a line feed
 abbrev pub gap : ℕ → Bool
@@ -20,13 +20,8 @@ abbrev pub words_of : List ℕ → List (List ℕ)
 words_of [] = []
 words_of (b ∷ bs) = cond (gap b) (words_of bs) (cond (in_word bs) (on_first b (words_of bs)) ((b ∷ []) ∷ words_of bs))
 
--- r is where the first word from a place on begins
-abbrev pub BeginsWord : List ℕ → ℕ → Option ℕ → Type 0
-BeginsWord text place None = words_of (drop place text) ≡ []
-BeginsWord text place (Some r) = (place ≤ r) × (r < length text) × (gap (slice_index text r) ≡ false) × (words_of (drop place text) ≡ words_of (drop r text))
-
--- the first word from a place on, and the place where it ends
-pub record NextWord (text : List ℕ) (place : ℕ) (word : List ℕ) (end : ℕ) : Type 0 where
-  pub cuts : words_of (drop place text) ≡ word ∷ words_of (drop end text)
-  pub later : place < end
-  pub within : end ≤ length text
+-- the first word of a text, and what stands after it
+pub record NextWord (text word rest : List ℕ) : Type 0 where
+  pub cuts : words_of text ≡ word ∷ words_of rest
+  pub shorter : length rest < length text
+  pub stands : rest ≡ drop (length text - length rest) text

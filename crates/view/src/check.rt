@@ -13,10 +13,10 @@ const LONGEST: usize = 130;
 pub(crate) fn clauses_fit(body: &[u8], variables: usize, clauses: usize) -> bool
     ensures tells_clauses { result ≡ completes variables clauses 0 0 (words_of body.now) }
 {
-    let mut place = 0;
+    let mut left = body;
     let mut closed: usize = 0;
     let mut long: usize = 0;
-    while let Some((word, end)) = next_word(body, place) {
+    while let Some((word, rest)) = next_word(left) {
         let Some(number) = read_number(word, variables) else {
             return false;
         };
@@ -29,7 +29,7 @@ pub(crate) fn clauses_fit(body: &[u8], variables: usize, clauses: usize) -> bool
             }
             long += 1;
         }
-        place = end;
+        left = rest;
     }
     long == 0 && closed == clauses
 }

@@ -4,12 +4,16 @@ ghost use Rattle.rules.specs.Lists.{has};
 ghost use Rattle.view.specs.Format.{Headed};
 ghost use Rattle.view.specs.Reads.{Split, ReadsHead, Unheaded};
 
+use crate::text_view::WIDEST;
 use lines::{next_line, read_size};
+
+// The most clauses of a text.
+const MOST_CLAUSES: usize = 999_999;
 
 fn is_comment(line: &[u8]) -> bool
     ensures tells_comment { result ≡ (slice_index line.now 0 == 99) }
 {
-    !line.is_empty() && line[0] == b'c'
+    line.starts_with(b"c")
 }
 
 // The bytes before the first space, and those after it.
@@ -30,8 +34,8 @@ fn read_head(line: &[u8]) -> Option<(usize, usize)>
 {
     let numbers = line.strip_prefix(b"p cnf ")?;
     let (variables, clauses) = at_space(numbers)?;
-    let v = read_size(variables, 999_999)?;
-    let c = read_size(clauses, 999_999)?;
+    let v = read_size(variables, WIDEST)?;
+    let c = read_size(clauses, MOST_CLAUSES)?;
     Some((v, c))
 }
 

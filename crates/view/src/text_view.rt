@@ -8,6 +8,9 @@ ghost use Rattle.view.specs.Words.{words_of};
 pub mod asking;
 pub mod lending;
 
+// The widest variable of any view.
+pub(crate) const WIDEST: usize = 999_999;
+
 // The text after its head line, with V and C from there.
 #[derive(Clone, Copy)]
 pub struct TextView<'a> {

@@ -4,9 +4,8 @@ ghost use Rattle.std.specs.Prelude.{take, drop};
 ghost use Rattle.clauses.specs.Granted.{bounded_by};
 ghost use Rattle.clauses.specs.Rows.{parse};
 
-use crate::scan::{pick, run, start};
 use crate::source::Source;
-use crate::words::WordSink;
+use crate::words::{WIDEST, WordSink};
 
 impl<'a> Source for WordSink<'a> {
     ghost held = { λ s. parse (take s.used s.words.now) };
@@ -17,31 +16,14 @@ impl<'a> Source for WordSink<'a> {
 
     ghost rest = { λ s place. parse (drop place (take s.used s.words.now)) };
 
+    ghost end = { λ s. s.used };
+
     fn clause_count(&self) -> usize {
         self.count
     }
 
-    fn clause_length(&self, n: usize) -> Option<usize> {
-        let words = &self.words[0..self.used];
-        match start(words, n) {
-            Some(from) => run(words, from),
-            None => None,
-        }
-    }
-
-    fn literal(&self, n: usize, k: usize) -> Option<i32> {
-        if k == 0 {
-            return None;
-        }
-        let words = &self.words[0..self.used];
-        match start(words, n) {
-            Some(from) => pick(words, from, k - 1),
-            None => None,
-        }
-    }
-
     fn widest_variable(&self) -> usize {
-        4096
+        WIDEST
     }
 
     fn first_place(&self) -> usize {

@@ -4,7 +4,7 @@ ghost use Rattle.clauses.specs.Rows.{word_cost, word_cheap};
 
 use crate::check::bad_clause;
 use crate::sink::Sink;
-use crate::words::WordSink;
+use crate::words::{WIDEST, WordSink};
 use rules::Refusal;
 
 impl<'a> Sink for WordSink<'a> {
@@ -19,7 +19,7 @@ impl<'a> Sink for WordSink<'a> {
     ghost lent = { λ s. s.words.ghost_name };
 
     fn cost_of(&self, clause: &[i32]) -> usize {
-        if bad_clause(4096, clause) {
+        if bad_clause(WIDEST, clause) {
             0
         } else {
             clause.len() + 1
@@ -31,7 +31,7 @@ impl<'a> Sink for WordSink<'a> {
     }
 
     fn add(&mut self, clause: &[i32]) -> Result<(), Refusal> {
-        if bad_clause(4096, clause) {
+        if bad_clause(WIDEST, clause) {
             return Err(Refusal::BadClause);
         }
         let n = clause.len();
@@ -39,9 +39,7 @@ impl<'a> Sink for WordSink<'a> {
         if self.words.len() - at < n + 1 {
             return Err(Refusal::NoSpace);
         }
-        for i in 0..n {
-            self.words[at + i] = clause[i];
-        }
+        self.words[at..at + n].copy_from_slice(clause);
         self.words[at + n] = 0;
         self.used = at + n + 1;
         self.count += 1;

@@ -5,8 +5,8 @@ ghost use Rattle.clauses.specs.Granted.{bounded_by};
 ghost use Rattle.clauses.specs.Rows.{parse};
 ghost use Rattle.text.specs.Scan.{numbers};
 
-use crate::lines::TextSink;
-use crate::reading::{pick, run, start, word_from};
+use crate::lines::{TextSink, WIDEST};
+use crate::reading::first_number;
 use clauses::Source;
 
 impl<'a> Source for TextSink<'a> {
@@ -18,31 +18,14 @@ impl<'a> Source for TextSink<'a> {
 
     ghost rest = { λ s place. parse (numbers (drop place (take s.used s.bytes.now))) };
 
+    ghost end = { λ s. s.used };
+
     fn clause_count(&self) -> usize {
         self.count
     }
 
-    fn clause_length(&self, n: usize) -> Option<usize> {
-        let text = &self.bytes[0..self.used];
-        match start(text, n) {
-            Some(from) => run(text, from),
-            None => None,
-        }
-    }
-
-    fn literal(&self, n: usize, k: usize) -> Option<i32> {
-        if k == 0 {
-            return None;
-        }
-        let text = &self.bytes[0..self.used];
-        match start(text, n) {
-            Some(from) => pick(text, from, k - 1),
-            None => None,
-        }
-    }
-
     fn widest_variable(&self) -> usize {
-        999_999
+        WIDEST
     }
 
     fn first_place(&self) -> usize {
@@ -50,6 +33,10 @@ impl<'a> Source for TextSink<'a> {
     }
 
     fn word_at(&self, place: usize) -> Option<(i32, usize)> {
-        word_from(&self.bytes[0..self.used], place)
+        if place >= self.used {
+            return None;
+        }
+        let (word, long) = first_number(&self.bytes[place..self.used])?;
+        Some((word, place + long))
     }
 }

@@ -1,10 +1,10 @@
 // What is asked of a view as a source.
-ghost use Rattle.std.specs.Prelude.{drop};
+ghost use Rattle.std.specs.Prelude.{drop, length};
 ghost use Rattle.view.specs.Body.{clauses_of};
 ghost use Rattle.view.specs.Bounds.{bounded_within};
 
-use crate::text_view::TextView;
-use crate::walk::{pick, run, start, word_from};
+use crate::text_view::{TextView, WIDEST};
+use crate::walk::{next_word, number_in};
 use clauses::Source;
 
 impl<'a> Source for TextView<'a> {
@@ -16,25 +16,14 @@ impl<'a> Source for TextView<'a> {
 
     ghost rest = { λ s place. clauses_of (drop place s.body.now) };
 
+    ghost end = { λ s. length s.body.now };
+
     fn clause_count(&self) -> usize {
         self.clauses
     }
 
-    fn clause_length(&self, n: usize) -> Option<usize> {
-        let from = start(self.body, n)?;
-        run(self.body, from)
-    }
-
-    fn literal(&self, n: usize, k: usize) -> Option<i32> {
-        if k == 0 {
-            return None;
-        }
-        let from = start(self.body, n)?;
-        pick(self.body, from, k - 1)
-    }
-
     fn widest_variable(&self) -> usize {
-        999_999
+        WIDEST
     }
 
     fn first_place(&self) -> usize {
@@ -42,6 +31,10 @@ impl<'a> Source for TextView<'a> {
     }
 
     fn word_at(&self, place: usize) -> Option<(i32, usize)> {
-        word_from(self.body, place)
+        if place >= self.body.len() {
+            return None;
+        }
+        let (word, rest) = next_word(&self.body[place..])?;
+        Some((number_in(word), self.body.len() - rest.len()))
     }
 }

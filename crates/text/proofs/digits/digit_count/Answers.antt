@@ -30,5 +30,5 @@ count n h =
     (cases_lt n 100))
     (cases_lt n 10)
 
-pub returns : goal.returns
-returns c = record { counts_digits = count c.args.n c.requires }
+pub returns-clause-counts_digits : goal.returns-clause-counts_digits
+returns-clause-counts_digits c = count c.args.n c.requires.small

@@ -3,5 +3,5 @@ use Rattle.rules.specs.Lists.{each}
 use Rattle.text.specs.Lines.{literal_text}
 use Rattle.text.proofs.digits.line_cost.Given as goal
 
-abbrev pub invariant-loop-i : goal.invariant-loop-i
-invariant-loop-i l = (l.cost ≡ length (each literal_text (take l.i l.clause)) + 2) × (l.cost ≤ 8 * l.i + 2)
+abbrev pub invariant-loop-l : goal.invariant-loop-l
+invariant-loop-l l = (l.cost ≡ length (each literal_text (take l.l-index l.clause)) + 2) × (l.cost ≤ 8 * l.l-index + 2)

@@ -1,22 +1,10 @@
-use Rattle.std.proofs.Common.{Some, None, sym, subst}
+use Rattle.std.proofs.Common.{Some, sym, subst}
 use Rattle.std.proofs.lemmas.Slice.Eq.{strip_prefix_is}
 use Rattle.view.specs.Format.{head_mark}
 use Rattle.view.specs.Reads.{ReadsHead}
-use Rattle.view.proofs.Tops.{head_unmarked, head_unsplit, head_front, head_back, head_read}
+use Rattle.view.proofs.Tops.{head_front, head_back, head_read}
 use Rattle.view.proofs.front.read_head.Goals as goal
 use Rattle.std.proofs.lemmas.Bool.Decides.{Decides-eqb}
-
-pub returns-in_err-numbers : goal.returns-in_err-numbers
-returns-in_err-numbers c =
-    let line = c.args.line.now in
-    record { reads_head = subst (ReadsHead line) (sym c.from_residual.ensures) (head_unmarked line (strip_prefix_is Decides-eqb line head_mark None c.in_err-numbers.ensures.cases)) }
-
-pub returns-in_err-variables : goal.returns-in_err-variables
-returns-in_err-variables c =
-    let line = c.args.line.now in
-    let rest = c.in_ok-numbers.numbers in
-    let mark = strip_prefix_is Decides-eqb line head_mark (Some rest) c.in_ok-numbers.ensures.cases in
-    record { reads_head = subst (ReadsHead line) (sym c.from_residual-in_err-variables.ensures) (head_unsplit line rest.now mark c.in_err-variables.ensures.cuts_at_space) }
 
 pub returns-in_err-v : goal.returns-in_err-v
 returns-in_err-v c =

@@ -1,13 +1,29 @@
-use Rattle.std.proofs.Common.{◌≡◌, ℕ, ◌-◌, take, subst, arith}
-use Rattle.text.specs.Words.{Next}
+use Rattle.std.proofs.Common.{◌≡◌, ◌+◌, ◌∷◌, take, drop, ℤ, sym, ap, ◌∙◌, subst, w32, SFits, rules}
+use Rattle.std.proofs.lemmas.Int.{to_z-of_z}
+use Rattle.std.proofs.lemmas.List.{drop-drop}
+use Rattle.std.proofs.lemmas.Slice.{between_is}
+use Rattle.clauses.specs.Walk.{Word}
+use Rattle.clauses.specs.Rows.{parse}
+use Rattle.clauses.proofs.Rows.{word_read}
+use Rattle.text.specs.Scan.{numbers}
 use Rattle.text.proofs.Rendering.{shut}
-use Rattle.text.proofs.Scanning.{reads}
 use Rattle.text.proofs.lines.asking.TextSinkSource.word_at.Goals as goal
 
-pub returns : goal.returns
-returns c =
+pub returns-in_err-word-clause-reads_word : goal.returns-in_err-word-clause-reads_word
+returns-in_err-word-clause-reads_word c =
     let s = c.args.self.now in
-    let bs = s.bytes.now in
-    let all : s.used - 0 ≡ s.used = omega arith in
-    let n = subst (λ (n : ℕ). Next (take n bs) c.args.place c.word_from.result) all c.word_from.ensures.reads_number in
-    record { reads_word = reads (take s.used bs) c.args.place c.word_from.result (shut (take s.used bs) s.rendered s.granted) n }
+    rw c.from_residual.ensures (ap parse (ap numbers (sym (between_is s.bytes.now c.args.place s.used)) ∙ c.in_err-word.ensures.reads_number))
+
+pub returns-clause-reads_word : goal.returns-clause-reads_word
+returns-clause-reads_word c =
+    let s = c.args.self.now in
+    let bs = take s.used s.bytes.now in
+    let x = c.in_ok-word.word in
+    let long = c.in_ok-word.long in
+    let f : SFits w32 x = search rules in
+    let ys = numbers (drop (c.args.place + long) bs) in
+    let all = between_is s.bytes.now c.args.place s.used in
+    let more = ap numbers (ap (drop long) all ∙ drop-drop long c.args.place bs) in
+    let is : numbers (drop c.args.place bs) ≡ x ∷ ys = ap numbers (sym all) ∙ c.in_ok-word.ensures.reads_number.0 ∙ ap (λ ws. x ∷ ws) more in
+    subst (λ (z : ℤ). Word z (parse (numbers (drop c.args.place bs))) (parse ys)) (sym (to_z-of_z w32 x f))
+    (word_read (numbers (drop c.args.place bs)) x ys (shut bs s.rendered s.granted c.args.place) is)
