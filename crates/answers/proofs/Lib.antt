@@ -1,5 +1,4 @@
 pub mod Pieces
-pub mod Spaces
 pub mod Told
 pub mod Marking
 pub mod OneWay

@@ -1,51 +1,57 @@
 -- What a turn of each loop does.
-use Rattle.std.proofs.Common.{subst, ◌≡◌, ℕ, ◌+◌, ◌-◌, ◌%◌, ◌<◌, ◌≤◌, Bool, false, ◌&&◌, eqb, ◌⊎◌, List, [], ◌∷◌, ◌++◌, map, length, get_or, take, drop, set, Some, None, Decides, Option, sym, refl, ap, ◌∙◌, inl, inr, arith}
+use Rattle.std.proofs.Common.{⊎_elim, ◌≡◌, ℕ, suc, ◌-◌, ◌<◌, false, ◌&&◌, eqb, List, [], ◌∷◌, length, get_or, take, drop, Some, None, Option, sym, refl, ap, ◌∙◌, arith}
 use Rattle.std.specs.Str.{bytes_eq}
-use Rattle.std.proofs.lemmas.List.Edits.{map_over_more}
 use Rattle.std.proofs.lemmas.Slice.Eq.{bytes_eq-Decides}
-use Rattle.std.proofs.lemmas.List.{append-nil, take_all, drop_all, length-append, get_or_default, nil_from_length, take_rest}
-use Rattle.std.proofs.lemmas.Bool.{cond-true, cond-false, both_ways, and_from, eq-eqb}
+use Rattle.std.proofs.lemmas.List.{length-append, nil_from_length, take_rest}
+use Rattle.std.proofs.lemmas.Bool.{cases_eq, cond-true, cond-false, and_from, eq-eqb}
 use Rattle.rules.specs.Lists.{has}
 use Rattle.rules.proofs.Tests.{is_false}
-use Rattle.lines.specs.Cut.{Unended, Cut}
+use Rattle.lines.specs.Cut.{CutAt, Unended, Cut}
 use Rattle.answers.specs.declared.stage.Stage.{Stage}
 use Rattle.answers.specs.declared.stage.Stage.TheVariants.{Before, Among, Past}
 use Rattle.answers.specs.declared.status.Status.{Status}
 use Rattle.answers.specs.declared.status.Status.TheVariants.{Satisfiable, Unsatisfiable, Unknown}
 use Rattle.answers.specs.Rendering.{s_line}
-use Rattle.answers.specs.Following.{bind, lines_of, first_word, later_words, Parted, claim_of, still_among, take_word, last_word, take_words, take_values, mark, step, finish, follow}
+use Rattle.answers.specs.Following.{bind, lines_of, first_word, later_words, claim_of, still_among, take_word, last_word, take_words, take_values, mark, step, finish, follow}
 use Rattle.answers.proofs.Pieces.{one_word, word_cut, lines_cut, lines_none}
-
--- marks made truth values, from the first on
-
-pub settled_more : (before now : List ℕ) (i : ℕ) → now ≡ map (λ b. b % 2) (take i before) ++ drop i before → i < length before → length now ≡ length before → set now i (get_or now i 0 % 2) ≡ map (λ b. b % 2) (take (i + 1) before) ++ drop (i + 1) before
-settled_more before now i h l e = map_over_more (λ b. b % 2) before now i (get_or now i 0) l h (get_or_default now i 0 (get_or now i 0) (omega arith))
-
-pub settled_all : (before now : List ℕ) (i : ℕ) → now ≡ map (λ b. b % 2) (take i before) ++ drop i before → length before ≤ i → now ≡ map (λ b. b % 2) before
-settled_all before now i h l =
-    h
-    ∙ ap (λ x. map (λ b. b % 2) x ++ drop i before) (take_all i before l)
-    ∙ ap (λ x. map (λ b. b % 2) before ++ x) (drop_all i before l)
-    ∙ append-nil (map (λ b. b % 2) before)
 
 -- s lines
 
-differs : (l x : List ℕ) (t : Bool) → Decides t (l ≡ x) → t ≡ false → bytes_eq l x ≡ false
-differs l x t d f = is_false (bytes_eq l x) (λ e. both_ways t f (d.1 ((bytes_eq-Decides l x).0 e)))
+-- the bytes of a text from place i on are these
+abbrev pub Spells : List ℕ → ℕ → List ℕ → Type 0
+Spells l i [] = Unit {0}
+Spells l i (b ∷ bs) = (get_or l i 0 ≡ b) × Spells l (suc i) bs
 
--- a test against a text that goes by another name
-pub against : (t : Bool) (l x text : List ℕ) → Decides t (l ≡ x) → x ≡ text → Decides t (l ≡ text)
-against t l x text d e = subst (λ (y : List ℕ). Decides t (l ≡ y)) e d
+spells_more : (c : ℕ) (l : List ℕ) (i : ℕ) (bs : List ℕ) → Spells (c ∷ l) (suc i) bs → Spells l i bs
+spells_more c l i [] h = tt
+spells_more c l i (b ∷ bs) h = (h.0, spells_more c l (suc i) bs h.1)
 
-pub claim_none : (l : List ℕ) (t u v : Bool) → Decides t (l ≡ s_line Satisfiable) → Decides u (l ≡ s_line Unsatisfiable) → Decides v (l ≡ s_line Unknown) → t ≡ false → u ≡ false → v ≡ false → claim_of l ≡ None
-claim_none l t u v dt du dv et eu ev =
-    cond-false (bytes_eq l (s_line Satisfiable)) _ _ (differs l (s_line Satisfiable) t dt et)
-    ∙ cond-false (bytes_eq l (s_line Unsatisfiable)) _ _ (differs l (s_line Unsatisfiable) u du eu)
-    ∙ cond-false (bytes_eq l (s_line Unknown)) _ _ (differs l (s_line Unknown) v dv ev)
+spelled : (l bs : List ℕ) → length l ≡ length bs → Spells l 0 bs → l ≡ bs
+spelled [] [] e h = refl
+spelled [] (b ∷ bs) e h = absurd (omega arith)
+spelled (c ∷ l) [] e h = absurd (omega arith)
+spelled (c ∷ l) (b ∷ bs) e h = ap (λ x. x ∷ l) h.0 ∙ ap (λ x. b ∷ x) (spelled l bs (omega arith) (spells_more c l 0 bs h.1))
+
+claim_back : (s : Status) → claim_of (s_line s) ≡ Some s
+claim_back Satisfiable = refl
+claim_back Unsatisfiable = refl
+claim_back Unknown = refl
+
+pub claims : (l : List ℕ) (s : Status) → length l ≡ length (s_line s) → Spells l 0 (s_line s) → Some s ≡ claim_of l
+claims l s e h = sym (ap claim_of (spelled l (s_line s) e h) ∙ claim_back s)
+
+differs : (l x : List ℕ) → (l ≡ x → ⊥) → bytes_eq l x ≡ false
+differs l x ne = is_false (bytes_eq l x) (λ e. ne ((bytes_eq-Decides l x).0 e))
+
+pub claims_none : (l : List ℕ) → (l ≡ s_line Satisfiable → ⊥) → (l ≡ s_line Unsatisfiable → ⊥) → (l ≡ s_line Unknown → ⊥) → None ≡ claim_of l
+claims_none l a b c =
+    sym (cond-false (bytes_eq l (s_line Satisfiable)) _ _ (differs l (s_line Satisfiable) a)
+    ∙ cond-false (bytes_eq l (s_line Unsatisfiable)) _ _ (differs l (s_line Unsatisfiable) b)
+    ∙ cond-false (bytes_eq l (s_line Unknown)) _ _ (differs l (s_line Unknown) c))
 
 -- words
 
-parted_words : (left word rest : List ℕ) → Parted left word rest → (first_word left ≡ word) × (later_words left ≡ first_word rest ∷ later_words rest)
+parted_words : (left word rest : List ℕ) → CutAt 32 left word rest → (first_word left ≡ word) × (later_words left ≡ first_word rest ∷ later_words rest)
 parted_words left word rest p =
     let cut = word_cut word rest p.inside in
     (ap first_word p.parts ∙ cut.0, ap later_words p.parts ∙ cut.1)
@@ -57,7 +63,7 @@ module _ (n : ℕ) (m left : List ℕ) (long : length m ≡ n) where
   at_n : (word : List ℕ) (o : Option (List ℕ)) → take_word (length m) mark m word ≡ o → take_word n mark m word ≡ o
   at_n word o h = ap (λ j. take_word j mark m word) (sym long) ∙ h
 
-  module _ (word rest : List ℕ) (p : Parted left word rest) where
+  module _ (word rest : List ℕ) (p : CutAt 32 left word rest) where
     said_is : said ≡ bind (take_word n mark m word) (λ k. take_words n mark k (first_word rest) (later_words rest))
     said_is =
         let w = parted_words left word rest p in
@@ -76,9 +82,9 @@ module _ (n : ℕ) (m left : List ℕ) (long : length m ≡ n) where
     pub closed : left ≡ 48 ∷ [] → said ≡ Some (Past Satisfiable, m)
     closed e = said_last ∙ ap (last_word n mark m) e
 
-    module _ (t : Bool) (d : Decides t (left ≡ 48 ∷ [])) (f : t ≡ false) where
+    module _ (more : left ≡ 48 ∷ [] → ⊥) where
       said_other : said ≡ still_among (take_word n mark m left)
-      said_other = said_last ∙ cond-false (bytes_eq left (48 ∷ [])) _ _ (differs left (48 ∷ []) t d f)
+      said_other = said_last ∙ cond-false (bytes_eq left (48 ∷ [])) _ _ (differs left (48 ∷ []) more)
 
       pub last_on : (k : List ℕ) → take_word (length m) mark m left ≡ Some k → said ≡ Some (Among, k)
       last_on k h = said_other ∙ ap still_among (at_n left (Some k) h)
@@ -86,7 +92,7 @@ module _ (n : ℕ) (m left : List ℕ) (long : length m ≡ n) where
       pub last_off : take_word (length m) mark m left ≡ None → said ≡ None
       last_off h = said_other ∙ ap still_among (at_n left None h)
 
-pub word_shorter : (left word rest : List ℕ) → Parted left word rest → length rest < length left
+pub word_shorter : (left word rest : List ℕ) → CutAt 32 left word rest → length rest < length left
 word_shorter left word rest p = omega (arith, ap length p.parts, length-append word (32 ∷ rest))
 
 -- a v line, by its first two bytes
@@ -132,9 +138,14 @@ module _ (n : ℕ) (at : Stage) (m left : List ℕ) where
   pub text_unended : Unended left → 0 < length left → told ≡ None
   text_unended u some = ap (λ o. bind o (follow n mark at m)) (lines_none left u some)
 
+  unfinished : (s : Stage) → ((t : Status) → s ≡ Past t → ⊥) → finish s m ≡ None
+  unfinished Before h = refl
+  unfinished Among h = refl
+  unfinished (Past t) h = absurd (h t refl)
+
+  -- whatever is left, no stage before the last one ends a text
+  pub text_unfinished : Unended left → ((t : Status) → at ≡ Past t → ⊥) → told ≡ None
+  text_unfinished u h = ⊎_elim (λ e. text_ends e ∙ unfinished at h) (λ ne. text_unended u (omega arith)) (cases_eq (length left) 0)
+
 pub line_shorter : (left line rest : List ℕ) → Cut left line rest → length rest < length left
 line_shorter left line rest p = omega (arith, ap length p.parts, length-append line (10 ∷ rest))
-
-pub unfinished : (at : Stage) (m : List ℕ) → (at ≡ Before) ⊎ (at ≡ Among) → finish at m ≡ None
-unfinished at m (inl e) = ap (λ s. finish s m) e
-unfinished at m (inr e) = ap (λ s. finish s m) e

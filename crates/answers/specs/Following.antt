@@ -1,7 +1,6 @@
 -- An answer followed line by line.
-use Rattle.std.specs.Prelude.{◌≡◌, ℕ, ◌-◌, Bool, false, cond, ◌&&◌, List, [], ◌∷◌, ◌++◌, length, ℤ, pos, negsuc, Some, None, Option, ◌==◌, nat_le, nat_lt, slice_index, slice_set, unsigned_abs}
+use Rattle.std.specs.Prelude.{ℕ, ◌-◌, Bool, cond, ◌&&◌, List, [], ◌∷◌, length, ℤ, pos, negsuc, Some, None, Option, ◌==◌, nat_le, nat_lt, slice_index, slice_set, unsigned_abs}
 use Rattle.std.specs.Str.{bytes_eq}
-use Rattle.rules.specs.Lists.{has}
 use Rattle.lines.specs.Numbers.{number_of}
 use Rattle.answers.specs.declared.stage.Kind.{Kind}
 use Rattle.answers.specs.declared.stage.Kind.TheVariants.{Comment, Claim, Values, Other}
@@ -35,11 +34,6 @@ first_word (b ∷ bs) = cond (b == 32) [] (b ∷ first_word bs)
 abbrev pub later_words : List ℕ → List (List ℕ)
 later_words [] = []
 later_words (b ∷ bs) = cond (b == 32) (first_word bs ∷ later_words bs) (later_words bs)
-
--- a text parted at its first space
-pub record Parted (text word rest : List ℕ) : Type 0 where
-  pub inside : has 32 word ≡ false
-  pub parts : text ≡ word ++ (32 ∷ rest)
 
 -- the kind of a line, by its first character
 abbrev pub kind_of : List ℕ → Kind

@@ -1,5 +1,5 @@
 // An answer read line by line.
-ghost use Rattle.std.specs.Prelude.{◌≡◌, Some, None, MatchResult};
+ghost use Rattle.std.specs.Prelude.{◌≡◌, Some, None, MatchOption};
 ghost use Rattle.answers.specs.Answered.{Answered};
 ghost use Rattle.answers.specs.Following.{opened, mark_line, mark_text};
 
@@ -20,27 +20,22 @@ fn opened_by(status: Status) -> Stage
     }
 }
 
-// Moves the stage on over a line.
-fn take_line(stage: &mut Stage, line: &[u8], truth: &mut [u8]) -> Result<(), Refusal>
-    ensures takes_line { MatchResult result (λ _. mark_line stage.old truth.old line.now ≡ Some (stage.new, truth.new)) (λ _. mark_line stage.old truth.old line.now ≡ None) }
+// Moves the stage on over a line; nothing where no answer has it there.
+fn take_line(stage: &mut Stage, line: &[u8], truth: &mut [u8]) -> Option<()>
+    ensures takes_line { MatchOption result (mark_line stage.old truth.old line.now ≡ None) (λ _. mark_line stage.old truth.old line.now ≡ Some (stage.new, truth.new)) }
 {
     match (*stage, kind_of(line)) {
         (_, Kind::Comment) => {}
-        (Stage::Before, Kind::Claim) => {
-            let Some(status) = claim_of(line) else {
-                return Err(Refusal::NotAnAnswer);
-            };
-            *stage = opened_by(status);
-        }
+        (Stage::Before, Kind::Claim) => *stage = opened_by(claim_of(line)?),
         (Stage::Among, Kind::Values) => *stage = take_values(line, truth)?,
-        _ => return Err(Refusal::NotAnAnswer),
+        _ => return None,
     }
-    Ok(())
+    Some(())
 }
 
 // Takes all lines, from truth bytes that are 0; granted, marks are left in them.
-fn take_lines(text: &[u8], truth: &mut [u8]) -> Result<Status, Refusal>
-    ensures takes_text { MatchResult result (λ status. mark_text truth.old text.now ≡ Some (status, truth.new)) (λ _. mark_text truth.old text.now ≡ None) }
+fn take_lines(text: &[u8], truth: &mut [u8]) -> Option<Status>
+    ensures takes_text { MatchOption result (mark_text truth.old text.now ≡ None) (λ status. mark_text truth.old text.now ≡ Some (status, truth.new)) }
 {
     let mut stage = Stage::Before;
     let mut left = text;
@@ -48,13 +43,10 @@ fn take_lines(text: &[u8], truth: &mut [u8]) -> Result<Status, Refusal>
         take_line(&mut stage, line, truth)?;
         left = rest;
     }
-    // The last line has its end too.
-    if !left.is_empty() {
-        return Err(Refusal::NotAnAnswer);
-    }
     match stage {
-        Stage::Past(status) => Ok(status),
-        Stage::Before | Stage::Among => Err(Refusal::NotAnAnswer),
+        // The last line has its end too.
+        Stage::Past(status) if left.is_empty() => Some(status),
+        _ => None,
     }
 }
 
@@ -66,14 +58,10 @@ pub fn read_answer(text: &[u8], variables: usize, truth: &mut [u8]) -> Result<St
         return Err(Refusal::BadTruthMemory);
     }
     truth.fill(0);
-    match take_lines(text, truth) {
-        Ok(status) => {
-            settle(truth);
-            Ok(status)
-        }
-        Err(_) => {
-            truth.fill(0);
-            Err(Refusal::NotAnAnswer)
-        }
-    }
+    let Some(status) = take_lines(text, truth) else {
+        truth.fill(0);
+        return Err(Refusal::NotAnAnswer);
+    };
+    settle(truth);
+    Ok(status)
 }

@@ -1,9 +1,8 @@
 -- Digits, read from the left.
-use Rattle.std.proofs.Common.{◌≡◌, ℕ, zero, suc, ◌+◌, ◌-◌, ◌*◌, ◌<◌, ◌≤◌, Bool, true, false, cond, not, ◌&&◌, eqb, ltb, leb, List, [], ◌∷◌, length, get_or, take, drop, pos, neg_ℤ, Some, None, sym, refl, ap, ◌∙◌, arith}
-use Rattle.std.specs.Char.{is_ascii_digit}
+use Rattle.std.proofs.Common.{◌≡◌, ℕ, zero, suc, ◌+◌, ◌-◌, ◌*◌, ◌<◌, ◌≤◌, Bool, true, false, cond, ◌&&◌, leb, List, [], ◌∷◌, length, get_or, take, drop, pos, neg_ℤ, Some, None, sym, refl, ap, ◌∙◌, arith}
 use Rattle.std.specs.Str.{all_ascii_digits}
-use Rattle.std.proofs.lemmas.List.{at_drop_more, at_drop_all, take_rest}
-use Rattle.std.proofs.lemmas.Bool.{cond-true, cond-false, and_from, and_left, and_right, and_parts, lt-leb, le-leb, leb-true, eq-eqb}
+use Rattle.std.proofs.lemmas.List.{at_drop_more, take_rest}
+use Rattle.std.proofs.lemmas.Bool.{cond-true, cond-false, and_right, and_parts, lt-leb, leb-true, eq-eqb}
 use Rattle.lines.specs.Numbers.{read_on, plain, size_of, below_0, number_of}
 use Rattle.lines.specs.Reading.{Reading, ReadsWord}
 
@@ -22,23 +21,8 @@ module _ (most : ℕ) (ds : List ℕ) (n i : ℕ) (h : Left most ds n i) (lt : i
   read_more : read_on 0 ds ≡ read_on (10 * n + (get_or ds i 0 - 48)) (drop (i + 1) ds)
   read_more = h.0 ∙ at_drop_more (read_on n) ds i 0 lt
 
-  digits_more : all_ascii_digits ds ≡ (is_ascii_digit (get_or ds i 0) && all_ascii_digits (drop (i + 1) ds))
-  digits_more = h.1 ∙ at_drop_more all_ascii_digits ds i 0 lt
-
-  pub not_digit : is_ascii_digit (get_or ds i 0) ≡ false → None ≡ size_of most ds
-  not_digit e = sym (cond-false _ _ _ (and_left _ _ (and_right (ltb 0 (length ds) && not (eqb (get_or ds 0 0) 48 && ltb 1 (length ds))) _ (digits_more ∙ and_left _ _ e))))
-
   pub too_large : most < 10 * n + (get_or ds i 0 - 48) → None ≡ size_of most ds
   too_large e = sym (cond-false _ _ _ (and_right (plain ds) _ (lt-leb _ _ (omega (arith, read_more, read_on_ge (10 * n + (get_or ds i 0 - 48)) (drop (i + 1) ds))))))
-
-  pub left_more : is_ascii_digit (get_or ds i 0) ≡ true → 10 * n + (get_or ds i 0 - 48) ≤ most → Left most ds (10 * n + (get_or ds i 0 - 48)) (i + 1)
-  left_more e small = (read_more, digits_more ∙ ap (λ t. t && all_ascii_digits (drop (i + 1) ds)) e, small)
-
-pub all_read : (most : ℕ) (ds : List ℕ) (n i : ℕ) → Left most ds n i → length ds ≤ i → (ltb 0 (length ds) && not (eqb (get_or ds 0 0) 48 && ltb 1 (length ds))) ≡ true → Some n ≡ size_of most ds
-all_read most ds n i h end front =
-    let all : all_ascii_digits ds ≡ true = h.1 ∙ at_drop_all all_ascii_digits ds i end in
-    let is : read_on 0 ds ≡ n = h.0 ∙ at_drop_all (read_on n) ds i end in
-    ap Some (sym is) ∙ sym (cond-true _ _ _ (and_from _ _ (and_from _ _ front all) (le-leb _ _ (omega arith))))
 
 chosen : (t : Bool) (y z : ℕ) → Some z ≡ cond t (Some y) None → (t ≡ true) × (y ≡ z)
 chosen true y z h = (refl, cc)

@@ -6,7 +6,7 @@ mod laws;
 mod numeral;
 mod words;
 
-pub use cutting::next_line;
+pub use cutting::{cut_at, next_line};
 pub use laws::words_are_numbers;
 pub use numeral::Numeral;
 pub use words::{read_number, read_size};

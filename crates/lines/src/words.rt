@@ -6,24 +6,22 @@ ghost use Rattle.lines.specs.Reading.{ReadsWord};
 use crate::numeral::Numeral;
 
 // The number that plain digits write, if it is at most `most`.
+// `str::parse` is another reader: it takes a plus sign and zeros in front, and wants UTF-8.
 pub fn read_size(digits: &[u8], most: usize) -> Option<usize>
     ensures reads_size { result ≡ size_of most digits.now }
 {
-    if digits.is_empty() || (digits[0] == b'0' && digits.len() > 1) {
+    if matches!(digits, [] | [b'0', _, ..]) {
         return None;
     }
-    let tenth = most / 10;
     let mut n: usize = 0;
     for b in digits {
-        if *b < b'0' || *b > b'9' {
+        if !b.is_ascii_digit() {
             return None;
         }
-        let digit = (*b - b'0') as usize;
-        // Tested before the sum, which might not fit.
-        if n > tenth || digit > most - 10 * n {
+        n = n.checked_mul(10)?.checked_add(usize::from(*b - b'0'))?;
+        if n > most {
             return None;
         }
-        n = 10 * n + digit;
     }
     Some(n)
 }

@@ -1,9 +1,7 @@
-use Rattle.std.proofs.Common.{arith}
-use Rattle.answers.proofs.Turns.{settled_more, settled_all}
+use Rattle.std.proofs.Common.{◌%◌, arith}
+use Rattle.std.proofs.lemmas.List.Edits.{map_over_more}
+use Rattle.std.proofs.lemmas.List.{get_or_default}
 use Rattle.answers.proofs.values.settle.Goals as goal
 
-pub loop-i-preserved : goal.loop-i-preserved
-loop-i-preserved c = settled_more c.args.truth.now c.loop-i.truth c.loop-i.i c.loop-i.invariant (omega arith) (omega arith)
-
-pub returns : goal.returns
-returns c = record { settles_marks = settled_all c.args.truth.now c.loop-i.truth c.loop-i.i c.loop-i.invariant (omega arith) }
+pub loop-b-preserved : goal.loop-b-preserved
+loop-b-preserved c = map_over_more (λ b. b % 2) c.args.truth.now c.loop-b.truth c.loop-b.b-index _ (omega arith) c.loop-b.invariant (get_or_default c.loop-b.truth c.loop-b.b-index 0 _ (omega arith))

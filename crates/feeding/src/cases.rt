@@ -1,0 +1,47 @@
+// Many inputs in one: each is a 4-byte length, low byte first, and then its bytes.
+ghost use Rattle.std.specs.Prelude.{◌≡◌, ◌++◌, MatchOption, IfOk, OnOk, IfSome, Ok, List, ℕ};
+ghost use Rattle.std.specs.Fn.{FnReturnsAt};
+ghost use Rattle.std.specs.Io.KnownBytes.{Appends};
+ghost use Rattle.feeding.specs.Records.{IsFirst, NoRecord, ReturnsBytes, case_text, Told};
+
+use std::alloc::{AllocError, Global};
+use std::io::{self, Read, Write};
+
+// The record that stands first, and what stands after it; nothing where none stands whole.
+pub fn next_record(bytes: &[u8]) -> Option<(&[u8], &[u8])>
+    ensures takes_record { MatchOption result (NoRecord bytes.now) (λ p. IsFirst bytes.now p.0.now p.1.now) }
+{
+    let (length, rest) = bytes.split_first_chunk::<4>()?;
+    rest.split_at_checked(u32::from_le_bytes(*length) as usize)
+}
+
+// An answer under its number.
+fn numbered(heap: Global, number: usize, answer: &[u8]) -> Result<Vec<u8>, AllocError>
+    ensures heads_answer { IfOk result (λ out. out.items ≡ case_text number answer.now) }
+{
+    let mut out = format!(in heap; "case {number}\n")?.into_bytes();
+    out.extend_from_slice(answer)?;
+    Ok(out)
+}
+
+// Writes what a call answers for each record, under its number, counted from 1; the first bytes that are no record end them.
+pub fn answer_cases<R: Read + Drop, W: Write, F: Fn(&[u8]) -> Result<Vec<u8>, AllocError> + Drop>(
+    heap: Global,
+    mut input: R,
+    output: &mut W,
+    call: F,
+) -> io::Result<()>
+    requires callable { F.IsAlwaysCallable call }
+    ensures writes_answers { OnOk result (IfSome (R.remaining input) (λ bytes. (records : List (List ℕ)) × (out : List ℕ) × Told (ReturnsBytes (FnReturnsAt F.Fn call)) 1 records bytes out × Appends (W.contents output.old) (W.contents output.new) out)) }
+{
+    let mut bytes = Vec::new(heap);
+    input.read_to_end(&mut bytes)?;
+    let mut left = bytes.as_slice();
+    let mut number = 1;
+    while let Some((record, rest)) = next_record(left) {
+        output.write_all(&numbered(heap, number, &call(record)?)?)?;
+        left = rest;
+        number += 1;
+    }
+    Ok(())
+}

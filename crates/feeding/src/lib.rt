@@ -1,0 +1,10 @@
+// What the programs do with standard input and output: bytes in, a call's bytes out.
+#![tactic(auto)]
+
+mod cases;
+#[cfg(test)]
+mod tests;
+mod whole;
+
+pub use cases::{answer_cases, next_record};
+pub use whole::answer_input;

@@ -1,0 +1,48 @@
+// That the calls that can run out of memory succeed.
+use crate::{answer_cases, answer_input, next_record};
+use std::alloc::{AllocError, Global};
+use std::test::Fail;
+
+// The bytes twice.
+fn doubled(heap: Global, bytes: &[u8]) -> Result<Vec<u8>, AllocError> {
+    let mut out = Vec::new(heap);
+    out.extend_from_slice(bytes)?;
+    out.extend_from_slice(bytes)?;
+    Ok(out)
+}
+
+#[test]
+fn answers_one_input(rt: HostRuntime) -> Result<(), Fail> {
+    let heap = rt.alloc();
+    let mut out = Vec::new(heap);
+    answer_input(heap, b"abc".as_slice(), &mut out, |input| {
+        doubled(heap, input)
+    })?;
+    assert_eq!(rt; out.as_slice(), b"abcabc".as_slice());
+    Ok(())
+}
+
+#[test]
+fn answers_numbered_cases(rt: HostRuntime) -> Result<(), Fail> {
+    let heap = rt.alloc();
+    let mut out = Vec::new(heap);
+    let cases = b"\x02\0\0\0ab\0\0\0\0\x01\0\0\0c\x05\0\0\0left";
+    answer_cases(heap, cases.as_slice(), &mut out, |input| {
+        doubled(heap, input)
+    })?;
+    assert_eq!(rt;
+        out.as_slice(),
+        b"case 1\nababcase 2\ncase 3\ncc".as_slice()
+    );
+    Ok(())
+}
+
+#[test]
+fn takes_whole_records(rt: HostRuntime) {
+    assert_eq!(rt;
+        next_record(b"\x01\0\0\0cde"),
+        Some((b"c".as_slice(), b"de".as_slice()))
+    );
+    assert_eq!(rt; next_record(b"\0\0\0\x01cde"), None);
+    assert_eq!(rt; next_record(b"\0\0\0"), None);
+}
