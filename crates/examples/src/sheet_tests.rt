@@ -3,7 +3,6 @@ use assigning::assign;
 use decoding::decode;
 use memory::List;
 use problem::{Problem, read_problem};
-use requests::refusal_number;
 use rules::{Line, Refusal};
 use sheet_call::sheet_request;
 use std::alloc::Global;
@@ -74,7 +73,7 @@ fn tells_replies(rt: HostRuntime) -> Result<(), Fail> {
 fn number(answer: Result<(), Refusal>) -> u8 {
     match answer {
         Ok(()) => 0,
-        Err(refusal) => refusal_number(refusal),
+        Err(refusal) => u8::from(refusal),
     }
 }
 

@@ -3,7 +3,7 @@ use clauses::{Sink, word_sink};
 use formula::sizes;
 use planner::encode;
 use problem::{Problem, read_problem};
-use requests::{refusal_number, write_request};
+use requests::write_request;
 use std::alloc::Global;
 use std::process::Abort;
 use std::test::Fail;
@@ -195,7 +195,7 @@ fn encodes(
     };
     let answered = match answer {
         Ok(()) => 0,
-        Err(refusal) => refusal_number(refusal),
+        Err(refusal) => u8::from(refusal),
     };
     assert_eq!(rt; answered, number);
     Ok(())

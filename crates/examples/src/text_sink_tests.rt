@@ -1,13 +1,12 @@
 // Examples: a few lines of text.
 use clauses::{Sink, Source};
-use requests::refusal_number;
 use rules::Refusal;
 use text::text_sink;
 
 fn number(answer: Result<(), Refusal>) -> u8 {
     match answer {
         Ok(()) => 0,
-        Err(refusal) => refusal_number(refusal),
+        Err(refusal) => u8::from(refusal),
     }
 }
 

@@ -2,7 +2,6 @@
 use answers::{Status, read_answer};
 use clauses::Source;
 use memory::List;
-use requests::refusal_number;
 use rules::Refusal;
 use std::test::Fail;
 use view::{TextView, read_clause_text};
@@ -10,7 +9,7 @@ use view::{TextView, read_clause_text};
 fn number(answer: Result<(), Refusal>) -> u8 {
     match answer {
         Ok(()) => 0,
-        Err(refusal) => refusal_number(refusal),
+        Err(refusal) => u8::from(refusal),
     }
 }
 
@@ -48,7 +47,7 @@ fn refuses_no_answers(rt: HostRuntime) {
         let mut truth = [9u8; 3];
         let answered = match read_answer(text, 3, &mut truth) {
             Ok(_) => 0,
-            Err(refusal) => refusal_number(refusal),
+            Err(refusal) => u8::from(refusal),
         };
         assert_eq!(rt; answered, 13);
         assert!(rt; truth == [0, 0, 0]);

@@ -1,12 +1,11 @@
 // Examples: a few clauses in words.
 use clauses::{Sink, Source, word_sink};
-use requests::refusal_number;
 use rules::Refusal;
 
 fn number(answer: Result<(), Refusal>) -> u8 {
     match answer {
         Ok(()) => 0,
-        Err(refusal) => refusal_number(refusal),
+        Err(refusal) => u8::from(refusal),
     }
 }
 
