@@ -1,47 +1,31 @@
 // `report`: one dash from its step list to clauses for a solver, told for the workshop. Every figure comes from a call.
 #![tactic(auto)]
 
-mod dash;
-
 use clauses::{Sink, Source, word_sink};
+use dash::{FACTS, FactNames, Refused, STEPS, problem_bytes};
 use formula::sizes;
 use planner::encode;
 use problem::{Problem, read_problem};
-use requests::refusal_number;
 use rules::Refusal;
 use std::io::Write;
-use steps::{FactSet, Parallel};
+use steps::Parallel;
 use text::text_sink;
 
 // How many slots the bench is given.
 const SLOTS: usize = 5;
 
-fn print_facts(rt: &HostRuntime, what: &str, set: FactSet) -> anyhow::Result<()> {
-    print!(rt; "  {what}:")?;
-    for fact in 1..10 {
-        if set.contains(fact) {
-            let name = dash::FACTS[fact - 1];
-            print!(rt; " [{name}]")?;
-        }
-    }
-    println!(rt; "")?;
-    Ok(())
-}
-
 fn print_problem(rt: &HostRuntime, problem: &Problem) -> anyhow::Result<()> {
     let (facts, steps, pairs) = (problem.facts(), problem.steps(), problem.pairs());
     println!(rt; "The step list has {facts} facts, {steps} steps and {pairs} pairs.")?;
     println!(rt; "It arrives with:")?;
-    for fact in 1..10 {
+    for (name, fact) in FACTS.iter().zip(1..) {
         if problem.at_start(fact) {
-            let name = dash::FACTS[fact - 1];
             println!(rt; "  {name}")?;
         }
     }
     println!(rt; "It must leave with:")?;
-    for fact in 1..10 {
+    for (name, fact) in FACTS.iter().zip(1..) {
         if problem.is_goal(fact) {
-            let name = dash::FACTS[fact - 1];
             println!(rt; "  {name}")?;
         }
     }
@@ -49,21 +33,19 @@ fn print_problem(rt: &HostRuntime, problem: &Problem) -> anyhow::Result<()> {
 }
 
 fn print_steps(rt: &HostRuntime, problem: &Problem) -> anyhow::Result<()> {
-    for a in 1..9 {
+    for (name, a) in STEPS.iter().zip(1..) {
         if let Some(step) = problem.step(a) {
-            let name = dash::STEPS[a - 1];
             println!(rt; "Step {a}, {name}")?;
-            print_facts(rt, "needs", step.needs)?;
-            print_facts(rt, "sets", step.sets)?;
-            print_facts(rt, "clears", step.clears)?;
+            println!(rt; "  needs:{}", FactNames(step.needs))?;
+            println!(rt; "  sets:{}", FactNames(step.sets))?;
+            println!(rt; "  clears:{}", FactNames(step.clears))?;
         }
     }
     Ok(())
 }
 
 fn print_refusal(rt: &HostRuntime, refusal: Refusal) -> anyhow::Result<()> {
-    let number = refusal_number(refusal);
-    println!(rt; "  refused {number} ({refusal:?})")?;
+    println!(rt; "  {}", Refused(refusal))?;
     Ok(())
 }
 
@@ -123,7 +105,7 @@ fn print_text(rt: &HostRuntime, problem: &Problem, bytes: &mut [u8]) -> anyhow::
 
 fn main(rt: HostRuntime) -> anyhow::Result<()> {
     let heap = rt.alloc();
-    let bytes = dash::problem_bytes(heap)?;
+    let bytes = problem_bytes(heap)?;
     let mut problem = Problem::new();
     println!(rt; "Dash set-up report")?;
     if let Err(refusal) = read_problem(&mut problem, &bytes) {

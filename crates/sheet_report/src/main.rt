@@ -1,16 +1,15 @@
 // `sheet_report`: the reply of a solver to the clauses that `report` prints, turned into a sheet that is carried out, told for the workshop. Every figure comes from a call.
 #![tactic(auto)]
 
-mod dash;
 mod reply;
 
 use answers::read_answer;
 use carrying::carry_out;
+use dash::{FACTS, FactNames, Refused, STEPS, problem_bytes};
 use decoding::decode;
 use formula::sizes;
 use memory::List;
 use problem::{Problem, read_problem};
-use requests::refusal_number;
 use rules::{Line, Refusal};
 use std::alloc::Global;
 use steps::{FactSet, Parallel};
@@ -18,28 +17,15 @@ use steps::{FactSet, Parallel};
 // How many slots the bench is given.
 const SLOTS: usize = 5;
 
-fn print_facts(rt: &HostRuntime, what: &str, set: FactSet) -> anyhow::Result<()> {
-    print!(rt; "  {what}:")?;
-    for fact in 1..10 {
-        if set.contains(fact) {
-            let name = dash::FACTS[fact - 1];
-            print!(rt; " [{name}]")?;
-        }
-    }
-    println!(rt; "")?;
-    Ok(())
-}
-
 fn print_refusal(rt: &HostRuntime, refusal: Refusal) -> anyhow::Result<()> {
-    let number = refusal_number(refusal);
-    println!(rt; "  refused {number} ({refusal:?})")?;
+    println!(rt; "  {}", Refused(refusal))?;
     Ok(())
 }
 
 // The facts present at the start.
 fn start_state(problem: &Problem) -> FactSet {
     let mut state = FactSet::empty();
-    for fact in 1..10 {
+    for fact in 1..=FACTS.len() {
         if problem.at_start(fact) {
             state = state.with(fact);
         }
@@ -55,17 +41,13 @@ fn print_line(
     state: FactSet,
 ) -> anyhow::Result<Option<FactSet>> {
     let (slot, a) = (line.slot, line.step as usize);
-    let Some(step) = problem.step(a) else {
+    let (Some(step), Some(name)) = (problem.step(a), STEPS.get(a.wrapping_sub(1))) else {
         return Ok(None);
     };
-    if a < 1 || a > 8 {
-        return Ok(None);
-    }
-    let name = dash::STEPS[a - 1];
     println!(rt; "Slot {slot}: {name}")?;
     let after = carry_out(&step, state);
     match after {
-        Some(next) => print_facts(rt, "now", next)?,
+        Some(next) => println!(rt; "  now:{}", FactNames(next))?,
         None => println!(rt; "  does not find its needs")?,
     }
     Ok(after)
@@ -74,16 +56,15 @@ fn print_line(
 // The sheet carried out line by line, and which goals are reached.
 fn print_done(rt: &HostRuntime, problem: &Problem, lines: &[Line]) -> anyhow::Result<()> {
     let mut state = start_state(problem);
-    print_facts(rt, "at first", state)?;
-    for i in 0..lines.len() {
-        match print_line(rt, problem, lines[i], state)? {
+    println!(rt; "  at first:{}", FactNames(state))?;
+    for line in lines {
+        match print_line(rt, problem, *line, state)? {
             Some(next) => state = next,
             None => return Ok(()),
         }
     }
-    for fact in 1..10 {
+    for (name, fact) in FACTS.iter().zip(1..) {
         if problem.is_goal(fact) {
-            let name = dash::FACTS[fact - 1];
             let reached = if state.contains(fact) {
                 "reached"
             } else {
@@ -128,7 +109,7 @@ fn print_reply(rt: &HostRuntime, heap: Global, problem: &Problem) -> anyhow::Res
 
 fn main(rt: HostRuntime) -> anyhow::Result<()> {
     let heap = rt.alloc();
-    let bytes = dash::problem_bytes(heap)?;
+    let bytes = problem_bytes(heap)?;
     let mut problem = Problem::new();
     if let Err(refusal) = read_problem(&mut problem, &bytes) {
         return print_refusal(&rt, refusal);
