@@ -1,6 +1,5 @@
 // How the reports print sets of facts and refusals.
 use crate::names::FACTS;
-use requests::refusal_number;
 use rules::Refusal;
 use std::fmt;
 use steps::FactSet;
@@ -26,7 +25,7 @@ pub struct Refused(pub Refusal);
 
 impl fmt::Display for Refused {
     fn fmt<W: fmt::Write>(&self, f: &mut fmt::Formatter<W>) -> fmt::Result {
-        let number = refusal_number(self.0);
+        let number = u8::from(self.0);
         write!(f, "refused {number} ({:?})", self.0)
     }
 }
