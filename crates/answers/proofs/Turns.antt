@@ -1,9 +1,9 @@
 -- What a turn of each loop does.
-use Rattle.std.proofs.Common.{⊎_elim, ◌≡◌, ℕ, suc, ◌-◌, ◌<◌, false, ◌&&◌, eqb, List, [], ◌∷◌, length, get_or, take, drop, Some, None, Option, sym, refl, ap, ◌∙◌, arith}
+use Rattle.std.proofs.Common.{⊎_elim, ◌≡◌, ℕ, suc, ◌<◌, false, List, [], ◌∷◌, length, get_or, Some, None, Option, sym, refl, ap, ◌∙◌, arith}
 use Rattle.std.specs.Str.{bytes_eq}
 use Rattle.std.proofs.lemmas.Slice.Eq.{bytes_eq-Decides}
-use Rattle.std.proofs.lemmas.List.{length-append, nil_from_length, take_rest}
-use Rattle.std.proofs.lemmas.Bool.{cases_eq, cond-true, cond-false, and_from, eq-eqb}
+use Rattle.std.proofs.lemmas.List.{length-append, nil_from_length}
+use Rattle.std.proofs.lemmas.Bool.{cases_eq, cond-false}
 use Rattle.rules.specs.Lists.{has}
 use Rattle.rules.proofs.Tests.{is_false}
 use Rattle.lines.specs.Cut.{CutAt, Unended, Cut}
@@ -12,7 +12,7 @@ use Rattle.answers.specs.declared.stage.Stage.TheVariants.{Before, Among, Past}
 use Rattle.answers.specs.declared.status.Status.{Status}
 use Rattle.answers.specs.declared.status.Status.TheVariants.{Satisfiable, Unsatisfiable, Unknown}
 use Rattle.answers.specs.Rendering.{s_line}
-use Rattle.answers.specs.Following.{bind, lines_of, first_word, later_words, claim_of, still_among, take_word, last_word, take_words, take_values, mark, step, finish, follow}
+use Rattle.answers.specs.Following.{bind, lines_of, first_word, later_words, claim_of, still_among, take_word, last_word, take_words, mark, step, finish, follow}
 use Rattle.answers.proofs.Pieces.{one_word, word_cut, lines_cut, lines_none}
 
 -- s lines
@@ -79,9 +79,6 @@ module _ (n : ℕ) (m left : List ℕ) (long : length m ≡ n) where
     said_last : said ≡ last_word n mark m left
     said_last = let w = one_word left one in ap (λ x. take_words n mark m x (later_words left)) w.0 ∙ ap (take_words n mark m left) w.1
 
-    pub closed : left ≡ 48 ∷ [] → said ≡ Some (Past Satisfiable, m)
-    closed e = said_last ∙ ap (last_word n mark m) e
-
     module _ (more : left ≡ 48 ∷ [] → ⊥) where
       said_other : said ≡ still_among (take_word n mark m left)
       said_other = said_last ∙ cond-false (bytes_eq left (48 ∷ [])) _ _ (differs left (48 ∷ []) more)
@@ -94,16 +91,6 @@ module _ (n : ℕ) (m left : List ℕ) (long : length m ≡ n) where
 
 pub word_shorter : (left word rest : List ℕ) → CutAt 32 left word rest → length rest < length left
 word_shorter left word rest p = omega (arith, ap length p.parts, length-append word (32 ∷ rest))
-
--- a v line, by its first two bytes
-pub values_are : (n : ℕ) (m line : List ℕ) (o : Option (Stage × List ℕ)) → get_or line 0 0 ≡ 118 → get_or line 1 0 ≡ 32 → take_words n mark m (first_word (take (length line - 2) (drop 2 line))) (later_words (take (length line - 2) (drop 2 line))) ≡ o → take_values n mark m line ≡ o
-values_are n m [] o v w h = absurd (omega arith)
-values_are n m (b ∷ []) o v w h = absurd (omega arith)
-values_are n m (b ∷ c ∷ bs) o v w h =
-    let rest : take (length (b ∷ c ∷ bs) - 2) (drop 2 (b ∷ c ∷ bs)) ≡ bs = take_rest (b ∷ c ∷ bs) 2 in
-    cond-true (eqb b 118 && eqb c 32) (take_words n mark m (first_word bs) (later_words bs)) None (and_from (eqb b 118) (eqb c 32) (eq-eqb b 118 v) (eq-eqb c 32 w))
-    ∙ ap (λ x. take_words n mark m (first_word x) (later_words x)) (sym rest)
-    ∙ h
 
 -- lines
 

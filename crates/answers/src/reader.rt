@@ -10,7 +10,7 @@ use crate::values::{settle, take_values};
 use lines::next_line;
 use rules::Refusal;
 
-// Where an s line leads.
+// Where an s line leads; no `From`, since a stage is no form of a status.
 fn opened_by(status: Status) -> Stage
     ensures leads_on { result ≡ opened status }
 {

@@ -44,6 +44,7 @@ fn print_steps(rt: &HostRuntime, problem: &Problem) -> anyhow::Result<()> {
     Ok(())
 }
 
+// In each report, and in no library: no contract can say what is printed.
 fn print_refusal(rt: &HostRuntime, refusal: Refusal) -> anyhow::Result<()> {
     println!(rt; "  {}", Refused(refusal))?;
     Ok(())

@@ -17,12 +17,13 @@ use steps::{FactSet, Parallel};
 // How many slots the bench is given.
 const SLOTS: usize = 5;
 
+// In each report, and in no library: no contract can say what is printed.
 fn print_refusal(rt: &HostRuntime, refusal: Refusal) -> anyhow::Result<()> {
     println!(rt; "  {}", Refused(refusal))?;
     Ok(())
 }
 
-// The facts present at the start.
+// The facts present at the start; a loop over their numbers, since it needs no names.
 fn start_state(problem: &Problem) -> FactSet {
     let mut state = FactSet::empty();
     for fact in 1..=FACTS.len() {
