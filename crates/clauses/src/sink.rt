@@ -8,6 +8,7 @@ use crate::source::Source;
 use rules::Refusal;
 
 // A sink is a source that also takes clauses. It means, besides, a capacity and a cost for each clause.
+// No method has a default body: each reads or writes the memory, which every sink keeps in a form of its own.
 pub trait Sink: Source {
     ghost capacity: { Self → ℕ };
 

@@ -27,7 +27,7 @@ fn literal_cost(l: i32) -> usize
     if l < 0 { digits + 2 } else { digits + 1 }
 }
 
-// The bytes of a clause's line.
+// The bytes of a clause's line. Tried: `map` and `sum`, which leave open what each call requires of its literal.
 pub(crate) fn line_cost(clause: &[i32]) -> usize
     requires good { bad_clause 999999 clause.now ≡ false }
     ensures counts_line { result ≡ length (line_text clause.now) }

@@ -13,7 +13,8 @@ pub mod taking;
 // The widest variable.
 const WIDEST: usize = 999_999;
 
-// The first `used` bytes are the lines of the clauses, of which there are `count`.
+// The first `used` bytes are the lines of the clauses, of which there are `count`. No struct shared with the word sink:
+// each fact but the first is about how this memory is read.
 #[derive(Drop)]
 pub struct TextSink<'a> {
     bytes: &'a mut [u8],
