@@ -17,11 +17,9 @@ ghost use Rattle.examples.specs.Table.{ExamplesHold, SheetExamplesHold};
 // The definitions that the calls' contracts cite give each row of specs/Table.antt.
 pub fn examples_hold()
     ensures definitions_give_each_row { ExamplesHold }
-{
-}
+{}
 
 // The rows on decode, assign and what `sheet` prints.
 pub fn sheet_examples_hold()
     ensures definitions_give_each_sheet { SheetExamplesHold }
-{
-}
+{}

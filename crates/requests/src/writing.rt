@@ -71,11 +71,5 @@ pub fn write_request(heap: Global, input: &[u8]) -> Result<Vec<u8>, AllocError>
         return refused_text(heap, refusal);
     }
     let mut memory = vec![in heap; 0u8; 65536]?;
-    write_problem(
-        heap,
-        &problem,
-        request.horizon,
-        &request.rule,
-        &mut memory,
-    )
+    write_problem(heap, &problem, request.horizon, &request.rule, &mut memory)
 }

@@ -106,11 +106,5 @@ pub fn sheet_request(heap: Global, input: &[u8]) -> Result<Vec<u8>, AllocError>
         return refused_text(heap, refusal);
     }
     let answer = &rest[end..];
-    print_reply(
-        heap,
-        &problem,
-        request.horizon,
-        &request.rule,
-        answer,
-    )
+    print_reply(heap, &problem, request.horizon, &request.rule, answer)
 }

@@ -12,7 +12,8 @@ use Rattle.lines.proofs.Cuts.{has_append}
 use Rattle.lines.proofs.Digits.{never}
 use Rattle.lines.proofs.Numerals.{digits_of, size_only, size_back}
 use Rattle.view.specs.Format.{comment, head_mark, head_line, top, Headed}
-use Rattle.view.specs.Reads.{Split, ReadsHead, Unheaded}
+use Rattle.lines.specs.Cut.{CutAt}
+use Rattle.view.specs.Reads.{ReadsHead, Unheaded}
 
 -- the first place of a byte
 
@@ -139,9 +140,9 @@ module _ (line : List ℕ) where
     after_mark : (v c : ℕ) → line ≡ head_line v c → rest ≡ decimal v ++ (32 ∷ decimal c)
     after_mark v c e = append_cancel_left head_mark rest (decimal v ++ (32 ∷ decimal c)) (sym mark ∙ e)
 
-    module _ (front back : List ℕ) (s : Split rest front back) where
+    module _ (front back : List ℕ) (s : CutAt 32 rest front back) where
       parts_are : (v c : ℕ) → v ≤ 999999 → line ≡ head_line v c → (front ≡ decimal v) × (back ≡ decimal c)
-      parts_are v c hv e = once_cut 32 front back (decimal v) (decimal c) s.clear (clear_decimal 32 v (omega arith) hv) (sym s.parts ∙ after_mark v c e)
+      parts_are v c hv e = once_cut 32 front back (decimal v) (decimal c) s.inside (clear_decimal 32 v (omega arith) hv) (sym s.parts ∙ after_mark v c e)
 
       not_size : (ds : List ℕ) (n : ℕ) → n ≤ 999999 → None ≡ size_of 999999 ds → ds ≡ decimal n → ⊥
       not_size ds n l h e = let q : None ≡ Some n = h ∙ ap (size_of 999999) e ∙ size_back 999999 n (omega arith) l in never (cc)

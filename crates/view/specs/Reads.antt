@@ -1,14 +1,8 @@
 -- What the readers of clause text answer.
-use Rattle.std.specs.Prelude.{◌≡◌, ℕ, ◌≤◌, true, false, List, ◌∷◌, ◌++◌, drop, Some, None, Option, ◌≢◌}
-use Rattle.rules.specs.Lists.{has}
+use Rattle.std.specs.Prelude.{◌≡◌, ℕ, ◌≤◌, true, List, drop, Some, None, Option, ◌≢◌}
 use Rattle.clauses.specs.Rows.{ends}
 use Rattle.view.specs.Body.{numbers}
 use Rattle.view.specs.Format.{head_line, Headed}
-
--- the bytes before the first space, and those after it
-pub record Split (bytes front back : List ℕ) : Type 0 where
-  pub clear : has 32 front ≡ false
-  pub parts : bytes ≡ front ++ (32 ∷ back)
 
 -- V and C of a head line, or nothing where it is none
 abbrev pub ReadsHead : List ℕ → Option (ℕ × ℕ) → Type 0

@@ -1,11 +1,10 @@
 // What stands before the clauses: comments and the head line.
-ghost use Rattle.std.specs.Prelude.{◌≡◌, false, MatchOption, ◌==◌, slice_index};
-ghost use Rattle.rules.specs.Lists.{has};
+ghost use Rattle.std.specs.Prelude.{◌≡◌, MatchOption, ◌==◌, slice_index};
 ghost use Rattle.view.specs.Format.{Headed};
-ghost use Rattle.view.specs.Reads.{Split, ReadsHead, Unheaded};
+ghost use Rattle.view.specs.Reads.{ReadsHead, Unheaded};
 
 use crate::text_view::WIDEST;
-use lines::{next_line, read_size};
+use lines::{cut_at, next_line, read_size};
 
 // The most clauses of a text.
 const MOST_CLAUSES: usize = 999_999;
@@ -16,24 +15,12 @@ fn is_comment(line: &[u8]) -> bool
     line.starts_with(b"c")
 }
 
-// The bytes before the first space, and those after it.
-fn at_space(bytes: &[u8]) -> Option<(&[u8], &[u8])>
-    ensures cuts_at_space { MatchOption result (has 32 bytes.now ≡ false) (λ p. Split bytes.now p.0.now p.1.now) }
-{
-    for i in 0..bytes.len() {
-        if bytes[i] == b' ' {
-            return Some((&bytes[0..i], &bytes[i + 1..]));
-        }
-    }
-    None
-}
-
 // V and C of a head line.
 fn read_head(line: &[u8]) -> Option<(usize, usize)>
     ensures reads_head { ReadsHead line.now result }
 {
     let numbers = line.strip_prefix(b"p cnf ")?;
-    let (variables, clauses) = at_space(numbers)?;
+    let (variables, clauses) = cut_at(numbers, b' ')?;
     let v = read_size(variables, WIDEST)?;
     let c = read_size(clauses, MOST_CLAUSES)?;
     Some((v, c))

@@ -12,7 +12,7 @@ returns-in_err-v c =
     let rest = c.in_ok-numbers.numbers in
     let mark = strip_prefix_is Decides-eqb line head_mark (Some rest) c.in_ok-numbers.ensures.cases in
     let two = c.in_ok-variables in
-    record { reads_head = subst (ReadsHead line) (sym c.from_residual-in_err-v.ensures) (head_front line rest.now mark two.variables.now two.clauses.now two.ensures.cuts_at_space c.in_err-v.ensures.reads_size) }
+    record { reads_head = subst (ReadsHead line) (sym c.from_residual-in_err-v.ensures) (head_front line rest.now mark two.variables.now two.clauses.now two.ensures.cuts_at_first c.in_err-v.ensures.reads_size) }
 
 pub returns-in_err-c : goal.returns-in_err-c
 returns-in_err-c c =
@@ -20,7 +20,7 @@ returns-in_err-c c =
     let rest = c.in_ok-numbers.numbers in
     let mark = strip_prefix_is Decides-eqb line head_mark (Some rest) c.in_ok-numbers.ensures.cases in
     let two = c.in_ok-variables in
-    record { reads_head = subst (ReadsHead line) (sym c.from_residual-in_err-c.ensures) (head_back line rest.now mark two.variables.now two.clauses.now two.ensures.cuts_at_space c.in_err-c.ensures.reads_size) }
+    record { reads_head = subst (ReadsHead line) (sym c.from_residual-in_err-c.ensures) (head_back line rest.now mark two.variables.now two.clauses.now two.ensures.cuts_at_first c.in_err-c.ensures.reads_size) }
 
 pub returns : goal.returns
 returns c =
@@ -28,4 +28,4 @@ returns c =
     let rest = c.in_ok-numbers.numbers in
     let mark = strip_prefix_is Decides-eqb line head_mark (Some rest) c.in_ok-numbers.ensures.cases in
     let two = c.in_ok-variables in
-    record { reads_head = head_read line rest.now mark two.variables.now two.clauses.now two.ensures.cuts_at_space c.in_ok-v.v c.in_ok-c.c c.in_ok-v.ensures.reads_size c.in_ok-c.ensures.reads_size }
+    record { reads_head = head_read line rest.now mark two.variables.now two.clauses.now two.ensures.cuts_at_first c.in_ok-v.v c.in_ok-c.c c.in_ok-v.ensures.reads_size c.in_ok-c.ensures.reads_size }
