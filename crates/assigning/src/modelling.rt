@@ -24,6 +24,7 @@ fn assign_sheet<R: SlotRule>(
     lines: &[Line],
     truth: &mut [u8],
 ) -> Result<(), Refusal>
+    requires few_slots { formula.now.horizon ≤ 32 }
     requires sound { Sound (means formula.now.table) }
     ensures assigns { Assigns (means formula.now.table) (R.SlotRule.parts formula.now.rule.now) formula.now.horizon lines.now truth.old result truth.new }
 {
@@ -31,10 +32,10 @@ fn assign_sheet<R: SlotRule>(
     if truth.len() != variables {
         return Err(Refusal::BadTruthMemory);
     }
-    if !is_sheet(&formula.table, formula.horizon, lines) {
+    if !is_sheet(&formula.table, formula.horizon as usize, lines) {
         return Err(Refusal::BadSheetLines);
     }
-    let bytes = build(&formula.table, formula.horizon, lines);
+    let bytes = build(&formula.table, formula.horizon as usize, lines);
     let built = &bytes[..variables];
     if !meets_formula(formula, built) {
         return Err(Refusal::SheetDoesNotHold);

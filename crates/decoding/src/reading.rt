@@ -36,6 +36,7 @@ fn decode_model<R: SlotRule>(
     truth: &[u8],
     sheet: &mut List<Line>,
 ) -> Result<(), Refusal>
+    requires few_slots { formula.now.horizon ≤ 32 }
     ensures decodes { Decodes (means formula.now.table) (R.SlotRule.parts formula.now.rule.now) formula.now.horizon truth.now sheet.old result sheet.new }
 {
     if truth.len() != formula.variables() || !all_bits(truth) {
@@ -46,7 +47,7 @@ fn decode_model<R: SlotRule>(
     }
     let valuation = Valuation {
         table: &formula.table,
-        horizon: formula.horizon,
+        horizon: formula.horizon as usize,
         truth,
     };
     if valuation.count_lines() > sheet.capacity() {

@@ -44,10 +44,11 @@ impl<'a, R: SlotRule> Formula<'a, R> {
     {
         let ends = self.count_ends();
         let slot = self.count_slot();
+        let slots = self.horizon as usize;
         (
             self.variables(),
-            ends.clauses + self.horizon * slot.clauses,
-            ends.literals + self.horizon * slot.literals,
+            ends.clauses + slots * slot.clauses,
+            ends.literals + slots * slot.literals,
         )
     }
 }

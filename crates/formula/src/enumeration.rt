@@ -247,7 +247,7 @@ impl<'a, R: SlotRule> Formula<'a, R> {
         state: &mut S,
     ) -> Result<(), E>
         requires callable { F.IsAlwaysCallable visit.now }
-        requires within { before < 33 }
+        requires within { before < 65536 }
         ensures visits_slot { Visits (Shown F.Fn visit.now) state.old (slot_clauses (means self.now.table) (R.SlotRule.parts self.now.rule.now) before) result state.new }
     {
         Slot::new(&self.table, before).each_clause(self.rule, visit, state)
@@ -263,7 +263,7 @@ impl<'a, R: SlotRule> Formula<'a, R> {
         requires few { f ≤ 64 }
         ensures visits_goal { Visits (Shown F.Fn visit.now) state.old (goal_cell (means self.now.table) self.now.horizon f) result state.new }
     {
-        let end = Slot::new(&self.table, self.horizon);
+        let end = Slot::new(&self.table, self.horizon as usize);
         show_if(
             self.table.is_goal(f),
             &[aye(end.fact_before(f))],
@@ -297,7 +297,7 @@ impl<'a, R: SlotRule> Formula<'a, R> {
         ensures visits_formula { Visits (Shown F.Fn visit.now) state.old (formula_of (means self.now.table) (R.SlotRule.parts self.now.rule.now) self.now.horizon) result state.new }
     {
         self.each_start(visit, state)?;
-        for u in 0..self.horizon {
+        for u in 0..self.horizon as usize {
             self.each_of_slot(u, visit, state)?;
         }
         self.each_goal(visit, state)

@@ -11,12 +11,12 @@ use problem::{Part, StepTable};
 pub(crate) struct Slot<'a> {
     pub(crate) table: &'a StepTable,
     pub(crate) before: usize,
-    ghost within: { before < 33 },
+    ghost within: { before < 65536 },
 }
 
 impl<'a> Slot<'a> {
     pub(crate) fn new(table: &'a StepTable, before: usize) -> Slot<'a>
-        requires within { before < 33 }
+        requires within { before < 65536 }
         ensures is_slot { result.table.now ≡ table.now }
         ensures follows { result.before ≡ before }
     {

@@ -9,13 +9,13 @@ use problem::{Problem, StepTable};
 use rules::Refusal;
 use steps::SlotRule;
 
-// The formula of a problem, read into a table, for at most 32 slots that a rule allows.
+// The formula of a problem, read into a table, for so many slots that a rule allows. Every 16-bit horizon fits the literals.
 #[derive(Drop)]
 pub struct Formula<'a, R> {
     pub table: StepTable,
     pub rule: &'a R,
-    pub horizon: usize,
-    ghost few: { horizon ≤ 32 },
+    pub horizon: u16,
+    ghost small: { horizon < 65536 },
 }
 
 impl<'a, R: SlotRule> Formula<'a, R> {
@@ -29,7 +29,7 @@ impl<'a, R: SlotRule> Formula<'a, R> {
         Ok(Formula {
             table: problem.table(),
             rule,
-            horizon,
+            horizon: horizon as u16,
         })
     }
 
@@ -37,6 +37,6 @@ impl<'a, R: SlotRule> Formula<'a, R> {
     pub fn variables(&self) -> usize
         ensures counts_variables { result ≡ vars (means self.now.table) self.now.horizon }
     {
-        self.horizon * (self.table.facts + self.table.steps) + self.table.facts
+        self.horizon as usize * (self.table.facts + self.table.steps) + self.table.facts
     }
 }

@@ -30,17 +30,17 @@ pub total_cheap : (cost : Clause → ℕ) → ((c : Clause) → cost c ≤ 8 * l
 total_cheap cost cheap [] = omega arith
 total_cheap cost cheap (c ∷ cs) = omega (arith, cheap c, total_cheap cost cheap cs)
 
-module _ (p : Problem) (facts : p.facts ≤ 64) (steps : p.steps ≤ 128) (rule : Rule) (t : ℕ) (h : t ≤ 32) where
-  pub few_literals : literals (formula p rule t) ≤ 3154176
+module _ (p : Problem) (facts : p.facts ≤ 64) (steps : p.steps ≤ 128) (rule : Rule) (t : ℕ) (h : t ≤ 65535) where
+  pub few_literals : literals (formula p rule t) ≤ 6459129856
   few_literals =
       let s = few_slot length p facts steps rule (λ c l. l) (λ c l. l) 0 in
-      let m : t * literals (slot_clauses p rule 0) ≤ 3153920 = mul-le-mul h s in
+      let m : t * literals (slot_clauses p rule 0) ≤ 6459129600 = mul-le-mul h s in
       omega (arith, formula_total (λ n. n) p rule t, m, few_starts length p facts steps rule (λ c l. l) (λ c l. l), few_goals length p facts steps rule (λ c l. l) (λ c l. l) t)
 
-  pub few_clauses : length (formula p rule t) ≤ 3154176
+  pub few_clauses : length (formula p rule t) ≤ 6459129856
   few_clauses =
       let s = few_slot (λ _. 1) p facts steps rule (λ c l. omega arith) (λ c l. omega arith) 0 in
-      let m : t * total (λ _. 1) (slot_clauses p rule 0) ≤ 3153920 = mul-le-mul h s in
+      let m : t * total (λ _. 1) (slot_clauses p rule 0) ≤ 6459129600 = mul-le-mul h s in
       omega (arith, length_total (formula p rule t), formula_total (λ _. 1) p rule t, m, few_starts (λ _. 1) p facts steps rule (λ c l. omega arith) (λ c l. omega arith), few_goals (λ _. 1) p facts steps rule (λ c l. omega arith) (λ c l. omega arith) t)
 
   pub cost_fits : (cost : Clause → ℕ) → ((c : Clause) → cost c ≤ 8 * length c + 2) → total cost (formula p rule t) < 2 ^ 64

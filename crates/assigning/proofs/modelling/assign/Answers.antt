@@ -8,7 +8,7 @@ use Rattle.assigning.proofs.Refusing.{undoes_decode_lem, assigns_as, assigns_not
 use Rattle.assigning.proofs.modelling.assign.Goals as goal
 
 pub assign_sheet-requires : goal.assign_sheet-requires
-assign_sheet-requires g c = record { sound = subst Sound (sym c.in_ok-of.ensures.states_or_refuses.1) (lawful_sound c.args.problem.now.bytes.now c.args.problem.now.lawful) }
+assign_sheet-requires g c = record { few_slots = rw c.in_ok-of.ensures.states_or_refuses.3 c.in_ok-of.ensures.states_or_refuses.0; sound = subst Sound (sym c.in_ok-of.ensures.states_or_refuses.1) (lawful_sound c.args.problem.now.bytes.now c.args.problem.now.lawful) }
 
 pub returns : goal.returns
 returns g c =

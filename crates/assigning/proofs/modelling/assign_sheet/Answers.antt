@@ -13,7 +13,7 @@ use Rattle.assigning.proofs.modelling.assign_sheet.Goals as goal
 pub slice_bounds-built-end : goal.slice_bounds-built-end
 slice_bounds-built-end g c =
     let f = c.args.formula.now in
-    let h : c.variables-variables.result ≤ length c.build-bytes.result = omega (arith, most f.horizon f.table.facts f.table.steps f.few f.table.few.0 f.table.few.1, c.variables-variables.ensures.counts_variables, c.build-bytes.ensures.long) in
+    let h : c.variables-variables.result ≤ length c.build-bytes.result = omega (arith, most f.horizon f.table.facts f.table.steps c.requires.few_slots f.table.few.0 f.table.few.1, c.variables-variables.ensures.counts_variables, c.build-bytes.ensures.long) in
     search rules
 
 -- the bytes that are built tell the model
@@ -32,7 +32,7 @@ returns-then-not-meets_formula g c =
     let same = told_model c.variables-variables.result (vars p t) c.build-bytes.result (model p t ls) z c.build-bytes.ensures.builds_model in
     record {
       assigns = record {
-        answers = refuse_17 p rule t ls (length c.args.truth.now) c.args.formula.now.few (c.if-truth-variables.false ∙ z) sheet (λ h. c.if-not-meets_formula.ensures.answers_satisfaction (subst (λ (vs : List Bool). Satisfies (value vs) (formula p rule t)) (sym same) (holds_meets p rule t law ls sheet h)));
+        answers = refuse_17 p rule t ls (length c.args.truth.now) c.requires.few_slots (c.if-truth-variables.false ∙ z) sheet (λ h. c.if-not-meets_formula.ensures.answers_satisfaction (subst (λ (vs : List Bool). Satisfies (value vs) (formula p rule t)) (sym same) (holds_meets p rule t law ls sheet h)));
         writes = refl;
       };
     }
@@ -49,7 +49,7 @@ returns g c =
     let same = told_model c.variables-variables.result (vars p t) c.build-bytes.result (model p t ls) z c.build-bytes.ensures.builds_model in
     record {
       assigns = record {
-        answers = grant p rule t ls (length c.args.truth.now) c.args.formula.now.few (c.if-truth-variables.false ∙ z) sheet (meets_holds p rule t law ls sheet (subst (λ (vs : List Bool). Satisfies (value vs) (formula p rule t)) same c.if-not-meets_formula.ensures.answers_satisfaction));
+        answers = grant p rule t ls (length c.args.truth.now) c.requires.few_slots (c.if-truth-variables.false ∙ z) sheet (meets_holds p rule t law ls sheet (subst (λ (vs : List Bool). Satisfies (value vs) (formula p rule t)) same c.if-not-meets_formula.ensures.answers_satisfaction));
         writes = c.copy_from_slice.ensures.after ∙ ap (λ n. take n c.build-bytes.result) z ∙ c.build-bytes.ensures.builds_model;
       };
     }

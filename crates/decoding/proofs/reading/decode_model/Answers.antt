@@ -16,7 +16,7 @@ returns-then-count_lines-capacity g c =
     let l : room c.args.sheet.now < length (sheet_of p c.args.formula.now.horizon (value (told bs))) = omega (arith, c.count_lines.ensures.counts_lines, c.capacity.ensures.answers_room, c.if-count_lines-capacity.true) in
     record {
       decodes = record {
-        answers = refuse_9 p (g.R.SlotRule.parts c.args.formula.now.rule.now) c.args.formula.now.horizon bs _ c.args.formula.now.few bytes c.if-not-meets_formula.ensures.answers_satisfaction l;
+        answers = refuse_9 p (g.R.SlotRule.parts c.args.formula.now.rule.now) c.args.formula.now.horizon bs _ c.requires.few_slots bytes c.if-not-meets_formula.ensures.answers_satisfaction l;
         holds = refl;
         rest = refl;
         same_room = refl;
@@ -32,7 +32,7 @@ returns g c =
     let l : length (sheet_of p c.args.formula.now.horizon (value (told bs))) ≤ room c.args.sheet.now = omega (arith, c.count_lines.ensures.counts_lines, c.capacity.ensures.answers_room, c.if-count_lines-capacity.false) in
     record {
       decodes = record {
-        answers = grant p (g.R.SlotRule.parts c.args.formula.now.rule.now) c.args.formula.now.horizon bs _ c.args.formula.now.few bytes c.if-not-meets_formula.ensures.answers_satisfaction l;
+        answers = grant p (g.R.SlotRule.parts c.args.formula.now.rule.now) c.args.formula.now.horizon bs _ c.requires.few_slots bytes c.if-not-meets_formula.ensures.answers_satisfaction l;
         holds = c.write_sheet.ensures.holds;
         rest = c.write_sheet.ensures.rest;
         same_room = c.write_sheet.ensures.same_room;

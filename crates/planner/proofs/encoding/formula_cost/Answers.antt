@@ -12,6 +12,6 @@ returns g c =
     let rule = g.R.SlotRule.parts c.args.formula.now.rule.now in
     let all = formula p rule c.args.formula.now.horizon in
     let cost = g.S.Sink.cost in
-    let fits : total cost all < 2 ^ 64 = cost_fits p t.few.0 t.few.1 rule c.args.formula.now.horizon c.args.formula.now.few cost g.S.Sink.cheap in
+    let fits : total cost all < 2 ^ 64 = cost_fits p t.few.0 t.few.1 rule c.args.formula.now.horizon (omega (arith, c.args.formula.now.small)) cost g.S.Sink.cheap in
     let sum = costed_by cost _ _ (λ a b c r h. search rules) all 0 c.each_clause.new.state _ c.each_clause.ensures.visits_formula (omega (arith, fits)) in
     record { sums_costs = omega (arith, sum) }
