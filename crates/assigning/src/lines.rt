@@ -12,9 +12,7 @@ use rules::Line;
 fn named(slots: usize, steps: usize, l: Line) -> bool
     ensures answers_named { result ≡ named_line slots steps l }
 {
-    let slot = l.slot as usize;
-    let step = l.step as usize;
-    slot >= 1 && slot <= slots && step >= 1 && step <= steps
+    (1..=slots).contains(&usize::from(l.slot)) && (1..=steps).contains(&usize::from(l.step))
 }
 
 fn is_sheet(table: &StepTable, horizon: usize, lines: &[Line]) -> bool
