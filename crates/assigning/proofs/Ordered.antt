@@ -8,6 +8,7 @@ use Rattle.rules.specs.Lists.{In}
 use Rattle.rules.specs.Problems.{Problem}
 use Rattle.rules.specs.Sheets.{Earlier, Rising, Sheet}
 use Rattle.rules.proofs.Members.{counting_in, in_counting}
+use Rattle.assigning.specs.declared.lines.SheetLines.{SheetLines}
 use Rattle.assigning.specs.Rows.{earlier, named, rises, rows}
 
 test_earlier : (l m : Line) → earlier l m ≡ true → Earlier l m
@@ -95,11 +96,24 @@ module _ (p : Problem) (horizon : ℕ) (ls : List Line) where
       let b = counting_in 1 p.steps l.step (s.steps_in l m) in
       and_from _ _ (and_from _ _ (le-leb 1 l.slot a.0) (le-leb l.slot horizon (omega (arith, a.1)))) (and_from _ _ (le-leb 1 l.step b.0) (le-leb l.step p.steps (omega (arith, b.1)))))))
 
-  in_get_or : (xs : List Line) (i : ℕ) (d : Line) → i < length xs → In (get_or xs i d) xs
-  in_get_or [] i d h = absurd (omega arith)
-  in_get_or (x ∷ xs) zero d h = inl refl
-  in_get_or (x ∷ xs) (suc i) d h = inr (in_get_or xs i d (omega arith))
+in_get_or : (xs : List Line) (i : ℕ) (d : Line) → i < length xs → In (get_or xs i d) xs
+in_get_or [] i d h = absurd (omega arith)
+in_get_or (x ∷ xs) zero d h = inl refl
+in_get_or (x ∷ xs) (suc i) d h = inr (in_get_or xs i d (omega arith))
 
-  -- where the lines of a sheet point
-  pub line_within : rows horizon p.steps ls ≡ true → (i : ℕ) (d : Line) → i < length ls → (1 ≤ (get_or ls i d).slot) × ((get_or ls i d).slot ≤ horizon) × (1 ≤ (get_or ls i d).step) × ((get_or ls i d).step ≤ p.steps)
-  line_within e i d h = named_within horizon p.steps (get_or ls i d) (all_in (named horizon p.steps) ls (and_parts _ _ e).1 (get_or ls i d) (in_get_or ls i d h))
+-- what a read past the lines would give
+abbrev pub no_line : Line
+no_line = record { slot = 0; step = 0 }
+
+abbrev pub line_at : SheetLines → ℕ → Line
+line_at s i = get_or s.lines.now i no_line
+
+-- where a line points, in every table of 32 slots and 128 steps
+pub line_within : (s : SheetLines) (i : ℕ) → i < length s.lines.now → (1 ≤ (line_at s i).slot) × ((line_at s i).slot ≤ 32) × (1 ≤ (line_at s i).step) × ((line_at s i).step ≤ 128)
+line_within s i h =
+    let t = s.table.now in
+    let ls = s.lines.now in
+    let l = line_at s i in
+    let each = and_parts (rises ls) (list_all (named s.horizon t.steps) ls) s.sheet in
+    let w = named_within s.horizon t.steps l (all_in (named s.horizon t.steps) ls each.1 l (in_get_or ls i no_line h)) in
+    (w.0, omega (arith, w.1, s.few), w.2, omega (arith, w.3, t.few.1))
