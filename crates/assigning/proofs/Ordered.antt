@@ -1,14 +1,15 @@
 -- Lines that are named and lead, each, are a sheet.
-use Rattle.std.proofs.Common.{◌≡◌, ℕ, zero, suc, ◌+◌, ◌<◌, ◌≤◌, Bool, true, false, ◌&&◌, leb, List, [], ◌∷◌, length, get_or, drop, refl, ap, ◌∙◌, inl, inr, ⊎_elim, arith}
+use Rattle.std.proofs.Common.{◌≡◌, ℕ, zero, suc, ◌+◌, ◌<◌, ◌≤◌, Bool, true, false, ◌&&◌, leb, List, [], ◌∷◌, length, get_or, sym, refl, subst, ap, ◌∙◌, inl, inr, ⊎_elim, arith}
 use Rattle.std.proofs.ByRecursion.{All-weaker}
-use Rattle.std.proofs.lemmas.List.{at_drop_more, at_drop_all}
-use Rattle.std.proofs.lemmas.Bool.{ltb-true, lt-ltb, leb-true, le-leb, eqb-true, eq-eqb, and_parts, and_from, and_left, and_right, or_cases, or_left, or_right, both_ways, cases_lt}
+use Rattle.std.specs.List.{IsAllAdjacentAnswer, list_all}
+use Rattle.std.proofs.lemmas.Bool.{ltb-true, lt-ltb, leb-true, le-leb, eqb-true, eq-eqb, and_parts, and_from, and_left, and_right, or_cases, or_left, or_right, both_ways}
 use Rattle.rules.specs.declared.line.Line.{Line}
 use Rattle.rules.specs.Lists.{In}
 use Rattle.rules.specs.Problems.{Problem}
 use Rattle.rules.specs.Sheets.{Earlier, Rising, Sheet}
 use Rattle.rules.proofs.Members.{counting_in, in_counting}
-use Rattle.assigning.specs.Rows.{earlier, named, leads, rows}
+use Rattle.assigning.specs.declared.lines.SheetLines.{SheetLines}
+use Rattle.assigning.specs.Rows.{earlier, named, rises, rows}
 
 test_earlier : (l m : Line) → earlier l m ≡ true → Earlier l m
 test_earlier l m e =
@@ -27,45 +28,48 @@ earlier_trans l m n (inl h) (inr k) = inl (omega arith)
 earlier_trans l m n (inr h) (inl k) = inl (omega arith)
 earlier_trans l m n (inr h) (inr k) = inr (h.0 ∙ k.0, omega arith)
 
-module _ (slots steps : ℕ) where
-  rows_rise : (ls : List Line) → rows slots steps ls ≡ true → Rising ls
-  rows_rise [] e = tt
-  rows_rise (l ∷ []) e = (tt, tt)
-  rows_rise (l ∷ m ∷ ms) e =
-      let k = and_parts _ _ e in
-      let h = test_earlier l m (and_parts _ _ k.0).1 in
-      let r = rows_rise (m ∷ ms) k.1 in
-      ((h, All-weaker (Earlier m) (Earlier l) (λ n. earlier_trans l m n h) ms r.0), r)
+-- what the library says of the lines, taken two by two
+rises_true : (ls : List Line) → ((k : ℕ) (d : Line) → suc k < length ls → earlier (get_or ls k d) (get_or ls (suc k) d) ≡ true) → rises ls ≡ true
+rises_true [] h = refl
+rises_true (l ∷ []) h = refl
+rises_true (l ∷ m ∷ ms) h = and_from _ _ (h 0 l (omega arith)) (rises_true (m ∷ ms) (λ k d b. h (suc k) d (omega (arith, b))))
 
-  rows_named : (ls : List Line) → rows slots steps ls ≡ true → (l : Line) → In l ls → named slots steps l ≡ true
-  rows_named [] e l m = elim m [ ]
-  rows_named (x ∷ ls) e l (inl i) = ap (named slots steps) i ∙ (and_parts _ _ (and_parts _ _ e).0).0
-  rows_named (x ∷ ls) e l (inr m) = rows_named ls (and_parts _ _ e).1 l m
+rises_false : (ls : List Line) (k : ℕ) → suc k < length ls → ((d : Line) → earlier (get_or ls k d) (get_or ls (suc k) d) ≡ false) → rises ls ≡ false
+rises_false [] k b e = absurd (omega (arith, b))
+rises_false (l ∷ []) k b e = absurd (omega (arith, b))
+rises_false (l ∷ m ∷ ms) zero b e = and_left _ _ (e l)
+rises_false (l ∷ m ∷ ms) (suc k) b e = and_right _ _ (rises_false (m ∷ ms) k (omega (arith, b)) e)
 
-  rising_rows : (ls : List Line) → Rising ls → ((l : Line) → In l ls → named slots steps l ≡ true) → rows slots steps ls ≡ true
-  rising_rows [] r h = refl
-  rising_rows (l ∷ []) r h = and_from _ _ (and_from _ _ (h l (inl refl)) refl) refl
-  rising_rows (l ∷ m ∷ ms) r h = and_from _ _ (and_from _ _ (h l (inl refl)) (earlier_test l m r.0.0)) (rising_rows (m ∷ ms) r.1 (λ n i. h n (inr i)))
+next : (ls : List Line) (k : ℕ) (d : Line) (b : Bool) → b ≡ earlier (get_or ls k d) (get_or ls (k + 1) d) → earlier (get_or ls k d) (get_or ls (suc k) d) ≡ b
+next ls k d b e = let one : k + 1 ≡ suc k = omega arith in subst (λ n. earlier (get_or ls k d) (get_or ls n d) ≡ b) one (sym e)
 
-  -- line by line
-  module _ (ls : List Line) (i : ℕ) (d : Line) (h : i < length ls) where
-    here : rows slots steps (drop i ls) ≡ ((named slots steps (get_or ls i d) && leads (get_or ls i d) (drop (i + 1) ls)) && rows slots steps (drop (i + 1) ls))
-    here = at_drop_more (rows slots steps) ls i d h
+pub adjacent_rises : (ls : List Line) (r : Bool) → IsAllAdjacentAnswer (λ l m b. b ≡ earlier l m) ls r → r ≡ rises ls
+adjacent_rises ls true h = sym (rises_true ls (λ k d b. next ls k d true (h k d (omega (arith, b)))))
+adjacent_rises ls false h = sym (rises_false ls h.0 (omega (arith, h.1)) (λ d. next ls h.0 d false (h.2 d)))
 
-    pub unnamed : named slots steps (get_or ls i d) ≡ false → rows slots steps (drop i ls) ≡ false
-    unnamed e = here ∙ and_left _ _ (and_left _ _ e)
+rises_rising : (ls : List Line) → rises ls ≡ true → Rising ls
+rises_rising [] e = tt
+rises_rising (l ∷ []) e = (tt, tt)
+rises_rising (l ∷ m ∷ ms) e =
+    let k = and_parts _ _ e in
+    let h = test_earlier l m k.0 in
+    let r = rises_rising (m ∷ ms) k.1 in
+    ((h, All-weaker (Earlier m) (Earlier l) (λ n. earlier_trans l m n h) ms r.0), r)
 
-    pub not_leading : i + 1 < length ls → earlier (get_or ls i d) (get_or ls (i + 1) d) ≡ false → rows slots steps (drop i ls) ≡ false
-    not_leading l e = here ∙ and_left _ _ (and_right _ _ (at_drop_more (leads (get_or ls i d)) ls (i + 1) d l ∙ e))
+rising_rises : (ls : List Line) → Rising ls → rises ls ≡ true
+rising_rises [] r = refl
+rising_rises (l ∷ []) r = refl
+rising_rises (l ∷ m ∷ ms) r = and_from _ _ (earlier_test l m r.0.0) (rising_rises (m ∷ ms) r.1)
 
-    passed : (a b c : Bool) → a ≡ true → b ≡ true → ((a && b) && c) ≡ c
-    passed true true c e f = refl
-    passed true false c e f = absurd (both_ways false refl f)
-    passed false b c e f = absurd (both_ways false refl e)
+module _ (p : Line → Bool) where
+  all_in : (ls : List Line) → list_all p ls ≡ true → (l : Line) → In l ls → p l ≡ true
+  all_in [] e l m = elim m [ ]
+  all_in (x ∷ ls) e l (inl i) = ap p i ∙ (and_parts _ _ e).0
+  all_in (x ∷ ls) e l (inr m) = all_in ls (and_parts _ _ e).1 l m
 
-    pub leading : named slots steps (get_or ls i d) ≡ true → (i + 1 < length ls → earlier (get_or ls i d) (get_or ls (i + 1) d) ≡ true) → rows slots steps (drop i ls) ≡ rows slots steps (drop (i + 1) ls)
-    leading e f =
-        here ∙ passed _ _ _ e (⊎_elim (λ (l : i + 1 < length ls). at_drop_more (leads (get_or ls i d)) ls (i + 1) d l ∙ f l) (λ (l : length ls ≤ i + 1). at_drop_all (leads (get_or ls i d)) ls (i + 1) l) (cases_lt (i + 1) (length ls)))
+  in_all : (ls : List Line) → ((l : Line) → In l ls → p l ≡ true) → list_all p ls ≡ true
+  in_all [] h = refl
+  in_all (x ∷ ls) h = and_from _ _ (h x (inl refl)) (in_all ls (λ l m. h l (inr m)))
 
 named_within : (slots steps : ℕ) (l : Line) → named slots steps l ≡ true → (1 ≤ l.slot) × (l.slot ≤ slots) × (1 ≤ l.step) × (l.step ≤ steps)
 named_within slots steps l e =
@@ -77,29 +81,39 @@ named_within slots steps l e =
 module _ (p : Problem) (horizon : ℕ) (ls : List Line) where
   pub rows_sheet : rows horizon p.steps ls ≡ true → Sheet p horizon ls
   rows_sheet e =
-      let within = λ (l : Line) (m : In l ls). named_within horizon p.steps l (rows_named horizon p.steps ls e l m) in
+      let k = and_parts _ _ e in
+      let within = λ (l : Line) (m : In l ls). named_within horizon p.steps l (all_in (named horizon p.steps) ls k.1 l m) in
       record {
-        rising = rows_rise horizon p.steps ls e;
-        slots_in = λ l m. let k = within l m in in_counting 1 horizon l.slot k.0 (omega (arith, k.1));
-        steps_in = λ l m. let k = within l m in in_counting 1 p.steps l.step k.2 (omega (arith, k.3));
+        rising = rises_rising ls k.0;
+        slots_in = λ l m. let w = within l m in in_counting 1 horizon l.slot w.0 (omega (arith, w.1));
+        steps_in = λ l m. let w = within l m in in_counting 1 p.steps l.step w.2 (omega (arith, w.3));
       }
 
   pub no_sheet : rows horizon p.steps ls ≡ false → Sheet p horizon ls → ⊥
   no_sheet e s =
-      both_ways _ e (rising_rows horizon p.steps ls s.rising (λ l m.
+      both_ways _ e (and_from _ _ (rising_rises ls s.rising) (in_all (named horizon p.steps) ls (λ l m.
       let a = counting_in 1 horizon l.slot (s.slots_in l m) in
       let b = counting_in 1 p.steps l.step (s.steps_in l m) in
-      and_from _ _ (and_from _ _ (le-leb 1 l.slot a.0) (le-leb l.slot horizon (omega (arith, a.1)))) (and_from _ _ (le-leb 1 l.step b.0) (le-leb l.step p.steps (omega (arith, b.1))))))
+      and_from _ _ (and_from _ _ (le-leb 1 l.slot a.0) (le-leb l.slot horizon (omega (arith, a.1)))) (and_from _ _ (le-leb 1 l.step b.0) (le-leb l.step p.steps (omega (arith, b.1)))))))
 
-  in_get_or : (xs : List Line) (i : ℕ) (d : Line) → i < length xs → In (get_or xs i d) xs
-  in_get_or [] i d h = absurd (omega arith)
-  in_get_or (x ∷ xs) zero d h = inl refl
-  in_get_or (x ∷ xs) (suc i) d h = inr (in_get_or xs i d (omega arith))
+in_get_or : (xs : List Line) (i : ℕ) (d : Line) → i < length xs → In (get_or xs i d) xs
+in_get_or [] i d h = absurd (omega arith)
+in_get_or (x ∷ xs) zero d h = inl refl
+in_get_or (x ∷ xs) (suc i) d h = inr (in_get_or xs i d (omega arith))
 
-  -- where the lines of a sheet point
-  pub line_within : Sheet p horizon ls → (i : ℕ) (d : Line) → i < length ls → (1 ≤ (get_or ls i d).slot) × ((get_or ls i d).slot ≤ horizon) × (1 ≤ (get_or ls i d).step) × ((get_or ls i d).step ≤ p.steps)
-  line_within s i d h =
-      let m = in_get_or ls i d h in
-      let a = counting_in 1 horizon (get_or ls i d).slot (s.slots_in (get_or ls i d) m) in
-      let b = counting_in 1 p.steps (get_or ls i d).step (s.steps_in (get_or ls i d) m) in
-      (a.0, omega (arith, a.1), b.0, omega (arith, b.1))
+-- what a read past the lines would give
+abbrev pub no_line : Line
+no_line = record { slot = 0; step = 0 }
+
+abbrev pub line_at : SheetLines → ℕ → Line
+line_at s i = get_or s.lines.now i no_line
+
+-- where a line points, in every table of 32 slots and 128 steps
+pub line_within : (s : SheetLines) (i : ℕ) → i < length s.lines.now → (1 ≤ (line_at s i).slot) × ((line_at s i).slot ≤ 32) × (1 ≤ (line_at s i).step) × ((line_at s i).step ≤ 128)
+line_within s i h =
+    let t = s.table.now in
+    let ls = s.lines.now in
+    let l = line_at s i in
+    let each = and_parts (rises ls) (list_all (named s.horizon t.steps) ls) s.sheet in
+    let w = named_within s.horizon t.steps l (all_in (named s.horizon t.steps) ls each.1 l (in_get_or ls i no_line h)) in
+    (w.0, omega (arith, w.1, s.few), w.2, omega (arith, w.3, t.few.1))

@@ -8,10 +8,8 @@ use Rattle.rules.specs.Problems.{Problem}
 use Rattle.rules.specs.Sheets.{slot, chosen}
 use Rattle.steps.specs.declared.fact_set.FactSet.{FactSet}
 use Rattle.steps.specs.Sets.{facts_in}
-use Rattle.problem.specs.declared.part.Part.{Part}
-use Rattle.problem.specs.Collected.{empty_set}
-use Rattle.problem.specs.Tables.{part_of}
-use Rattle.assigning.specs.Slots.{Marks, Unions}
+use Rattle.assigning.specs.declared.gathering.SlotChange.{SlotChange}
+use Rattle.assigning.specs.Slots.{no_change, Marks, Changes}
 
 or_false : (a b : Bool) → b ≡ false → (a || b) ≡ a
 or_false true b e = refl
@@ -64,27 +62,48 @@ marks_more ls l marks k e lo hi lo' hi' h = record {
       (cases_eq (128 * u + (a - 1)) k);
 }
 
-module _ (p : Problem) (part : Part) where
-  pub unions_none : (none : FactSet) → facts_in none ≡ [] → Unions p part [] (replicate 32 none)
-  unions_none none e = record {
+-- all of one kind that the slots change, as in Changes
+abbrev pub Joins : (SlotChange → FactSet) → (ℕ → List ℕ) → List Line → List SlotChange → Type 0
+Joins of of_step lines changes = (u f : ℕ) → u < 32 → has f (facts_in (of (get_or changes u no_change))) ≡ any (λ a. has f (of_step a)) (slot lines (suc u))
+
+module _ (of : SlotChange → FactSet) (of_step : ℕ → List ℕ) where
+  joins_none : (none : SlotChange) → facts_in (of none) ≡ [] → Joins of of_step [] (replicate 32 none)
+  joins_none none e u f h = ap (has f) (ap (λ (s : SlotChange). facts_in (of s)) (get_or-replicate 32 u none no_change h) ∙ e)
+
+  joins_more : (ls : List Line) (l : Line) (changes : List SlotChange) (joint : SlotChange) → 1 ≤ l.slot → l.slot ≤ 32 → length changes ≡ 32 → ((f : ℕ) → has f (facts_in (of joint)) ≡ (has f (facts_in (of (get_or changes (l.slot - 1) no_change))) || has f (of_step l.step))) → Joins of of_step ls changes → Joins of of_step (ls ++ l ∷ []) (set changes (l.slot - 1) joint)
+  joins_more ls l changes joint lo hi long both h u f hu =
+      let k = l.slot - 1 in
+      let q = λ (a : ℕ). has f (of_step a) in
+      ⊎_elim
+      (λ (i : u ≡ k).
+      let s : l.slot ≡ suc u = omega (arith, i) in
+      let within : k < length changes = omega (arith, long) in
+      let here = ap (λ (t : Bool). t && q l.step) (eq-eqb l.slot (suc u) s) in
+      subst (λ j. has f (facts_in (of (get_or (set changes k joint) j no_change))) ≡ any q (slot (ls ++ l ∷ []) (suc u))) (sym i)
+      (ap (λ (x : SlotChange). has f (facts_in (of x))) (get_or-set_same changes k joint no_change within) ∙ both f ∙ ap (λ (t : Bool). t || q l.step) (ap (λ j. has f (facts_in (of (get_or changes j no_change)))) (sym i) ∙ h u f hu) ∙ sym (slot_push q ls l (suc u) ∙ ap (λ (t : Bool). any q (slot ls (suc u)) || t) here)))
+      (λ (ne : u ≡ k → ⊥).
+      let none : (eqb l.slot (suc u) && q l.step) ≡ false = and_left _ _ (ne_eqb l.slot (suc u) (λ s. ne (omega (arith, s)))) in
+      ap (λ (x : SlotChange). has f (facts_in (of x))) (get_or-set_other changes k u joint no_change ne) ∙ h u f hu ∙ sym (slot_push q ls l (suc u) ∙ or_false _ _ none))
+      (cases_eq u k)
+
+no_facts : (s : FactSet) → s.bits ≡ 0 → facts_in s ≡ []
+unfolding facts_in
+no_facts s e = ap (λ b. facts_in (record { bits = b })) e
+
+module _ (p : Problem) where
+  pub changes_none : (none : SlotChange) → none.clears.bits ≡ 0 → none.sets.bits ≡ 0 → Changes p [] (replicate 32 none)
+  changes_none none c s = record {
     long = length-replicate 32 none;
-    joined = λ u f h. ap (has f) (ap (λ (s : FactSet). facts_in s) (get_or-replicate 32 u none empty_set h) ∙ e);
+    clears = joins_none (λ x. x.clears) p.clears none (no_facts none.clears c);
+    sets = joins_none (λ x. x.sets) p.sets none (no_facts none.sets s);
   }
 
-  pub unions_more : (ls : List Line) (l : Line) (sets : List FactSet) (k : ℕ) (joint : FactSet) → k ≡ l.slot - 1 → 1 ≤ l.slot → l.slot ≤ 32 → ((f : ℕ) → has f (facts_in joint) ≡ (has f (facts_in (get_or sets k empty_set)) || has f (part_of p part l.step))) → Unions p part ls sets → Unions p part (ls ++ l ∷ []) (set sets k joint)
-  unions_more ls l sets k joint e lo hi both h = record {
-    long = length-set sets k joint ∙ h.long;
-    joined = λ u f hu.
-        let q = λ (a : ℕ). has f (part_of p part a) in
-        ⊎_elim
-        (λ (i : u ≡ k).
-        let s : l.slot ≡ suc u = omega arith in
-        let within : k < length sets = omega (arith, h.long) in
-        let here = ap (λ (t : Bool). t && q l.step) (eq-eqb l.slot (suc u) s) in
-        subst (λ j. has f (facts_in (get_or (set sets k joint) j empty_set)) ≡ any q (slot (ls ++ l ∷ []) (suc u))) (sym i)
-        (ap (λ (x : FactSet). has f (facts_in x)) (get_or-set_same sets k joint empty_set within) ∙ both f ∙ ap (λ (t : Bool). t || q l.step) (ap (λ j. has f (facts_in (get_or sets j empty_set))) (sym i) ∙ h.joined u f hu) ∙ sym (slot_push q ls l (suc u) ∙ ap (λ (t : Bool). any q (slot ls (suc u)) || t) here)))
-        (λ (ne : u ≡ k → ⊥).
-        let none : (eqb l.slot (suc u) && q l.step) ≡ false = and_left _ _ (ne_eqb l.slot (suc u) (λ s. ne (omega arith))) in
-        ap (λ (x : FactSet). has f (facts_in x)) (get_or-set_other sets k u joint empty_set ne) ∙ h.joined u f hu ∙ sym (slot_push q ls l (suc u) ∙ or_false _ _ none))
-        (cases_eq u k);
+  pub changes_more : (ls : List Line) (l : Line) (changes : List SlotChange) (joint : SlotChange) → 1 ≤ l.slot → l.slot ≤ 32
+      → ((f : ℕ) → has f (facts_in joint.clears) ≡ (has f (facts_in (get_or changes (l.slot - 1) no_change).clears) || has f (p.clears l.step)))
+      → ((f : ℕ) → has f (facts_in joint.sets) ≡ (has f (facts_in (get_or changes (l.slot - 1) no_change).sets) || has f (p.sets l.step)))
+      → Changes p ls changes → Changes p (ls ++ l ∷ []) (set changes (l.slot - 1) joint)
+  changes_more ls l changes joint lo hi c s h = record {
+    long = length-set changes (l.slot - 1) joint ∙ h.long;
+    clears = joins_more (λ x. x.clears) p.clears ls l changes joint lo hi h.long c h.clears;
+    sets = joins_more (λ x. x.sets) p.sets ls l changes joint lo hi h.long s h.sets;
   }

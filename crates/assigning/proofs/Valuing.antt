@@ -1,5 +1,5 @@
 -- What is computed of a variable is what the sheet says of it.
-use Rattle.std.proofs.Common.{◌≡◌, ℕ, suc, ◌+◌, ◌-◌, ◌*◌, ◌/◌, ◌%◌, ◌<◌, ◌≤◌, Bool, true, false, cond, not, ◌&&◌, ◌||◌, eqb, List, [], ◌∷◌, ◌++◌, map, length, get_or, take, set, sym, refl, ap, ◌∙◌, ⊎_elim, mul-le-mul_right, suc-mul, arith}
+use Rattle.std.proofs.Common.{◌≡◌, ℕ, suc, ◌+◌, ◌-◌, ◌*◌, ◌/◌, ◌%◌, ◌<◌, ◌≤◌, Bool, true, false, cond, not, ◌&&◌, ◌||◌, eqb, List, [], ◌∷◌, ◌++◌, map, length, get_or, take, set, sym, refl, subst, ap, ◌∙◌, ⊎_elim, mul-le-mul_right, suc-mul, arith}
 use lib.Arith.{digits_div, digits_mod}
 use mir.Val.{bool_byte}
 use Rattle.std.specs.List.{range_with_len}
@@ -10,14 +10,12 @@ use Rattle.std.proofs.lemmas.Bool.{cases_lt, cases_eq, cond-true, cond-false, lt
 use Rattle.rules.specs.declared.line.Line.{Line}
 use Rattle.rules.specs.Lists.{any, has}
 use Rattle.rules.specs.Problems.{Problem}
-use Rattle.rules.specs.Formula.{width}
-use Rattle.rules.specs.Sheets.{slot, state, chosen, valued}
-use Rattle.steps.specs.declared.fact_set.FactSet.{FactSet}
+use Rattle.rules.specs.Formula.{width, vars}
+use Rattle.rules.specs.Sheets.{slot, state, chosen, valued, model}
 use Rattle.steps.specs.Sets.{facts_in}
-use Rattle.problem.specs.declared.part.Part.TheVariants.{Sets, Clears}
-use Rattle.problem.specs.Collected.{empty_set}
 use Rattle.checking.specs.Told.{bytes_of}
-use Rattle.assigning.specs.Slots.{Marks, Unions, computed}
+use Rattle.assigning.specs.declared.gathering.SlotChange.{SlotChange}
+use Rattle.assigning.specs.Slots.{no_change, Marks, Changes, computed}
 
 -- which slots a place below 32 whole slots and the facts after them is in
 module _ (w f i : ℕ) (pos : 0 < w) (few : f ≤ w) (h : i < 32 * w + f) where
@@ -46,7 +44,7 @@ known_at v known i j h e =
     let b : get_or known j 0 ≡ cond (v j) 1 0 = sym (get_or-take i known j 0 h) ∙ ap (λ xs. get_or xs j 0) e ∙ get_or-map (λ (t : Bool). cond t 1 0) (map v (range_with_len 0 i)) j false 0 within ∙ ap (λ (t : Bool). cond t 1 0) (get_or-map-range_with_len v 0 i j j false h zero-add) in
     ap (λ n. eqb n 1) b ∙ bit_back (v j)
 
-module _ (p : Problem) (lines : List Line) (marks : List Bool) (clears sets : List FactSet) (known : List ℕ) (i : ℕ) (pos : 0 < width p) (few : p.steps ≤ 128) (h : i < 32 * width p + p.facts) (m : Marks lines marks) (c : Unions p Clears lines clears) (s : Unions p Sets lines sets) (e : take i known ≡ bytes_of (map (valued p lines) (range_with_len 0 i))) where
+module _ (p : Problem) (lines : List Line) (marks : List Bool) (changes : List SlotChange) (known : List ℕ) (i : ℕ) (pos : 0 < width p) (few : p.steps ≤ 128) (h : i < 32 * width p + p.facts) (m : Marks lines marks) (c : Changes p lines changes) (e : take i known ≡ bytes_of (map (valued p lines) (range_with_len 0 i))) where
   -- a step
   step_value : p.facts ≤ i % width p → get_or marks (128 * (i / width p) + (i % width p - p.facts)) false ≡ chosen lines (suc (i / width p)) (i % width p - p.facts + 1)
   step_value l =
@@ -57,7 +55,7 @@ module _ (p : Problem) (lines : List Line) (marks : List Bool) (clears sets : Li
       ap (λ n. get_or marks n false) place ∙ m.marked t (k - p.facts + 1) (slot_below (width p) p.facts i pos (omega arith) h l) (omega arith) (omega arith)
 
   -- a fact after a slot
-  later_value : i % width p < p.facts → (i / width p ≡ 0 → ⊥) → ((eqb (get_or known (i - width p) 0) 1 && not (has (i % width p + 1) (facts_in (get_or clears (i / width p - 1) empty_set)))) || has (i % width p + 1) (facts_in (get_or sets (i / width p - 1) empty_set))) ≡ state p lines (i / width p) (i % width p + 1)
+  later_value : i % width p < p.facts → (i / width p ≡ 0 → ⊥) → ((eqb (get_or known (i - width p) 0) 1 && not (has (i % width p + 1) (facts_in (get_or changes (i / width p - 1) no_change).clears))) || has (i % width p + 1) (facts_in (get_or changes (i / width p - 1) no_change).sets)) ≡ state p lines (i / width p) (i % width p + 1)
   later_value l ne =
       let w = width p in
       let u = i / w - 1 in
@@ -72,19 +70,19 @@ module _ (p : Problem) (lines : List Line) (marks : List Bool) (clears sets : Li
       let r : (i - w) % w ≡ k = ap (λ n. n % w) back ∙ digits_mod u small in
       let b : valued p lines (i - w) ≡ state p lines u (k + 1) = simp (d, r, lt-ltb k p.facts l) in
       let before : eqb (get_or known (i - w) 0) 1 ≡ state p lines u (k + 1) = known_at (valued p lines) known i (i - w) (omega arith) e ∙ b in
-      ap (λ (t : Bool). (t && not (has (k + 1) (facts_in (get_or clears u empty_set)))) || has (k + 1) (facts_in (get_or sets u empty_set))) before
-      ∙ ap (λ (t : Bool). (state p lines u (k + 1) && not t) || has (k + 1) (facts_in (get_or sets u empty_set))) (c.joined u (k + 1) in_slot)
-      ∙ ap (λ (t : Bool). (state p lines u (k + 1) && not (any (λ a. has (k + 1) (p.clears a)) (slot lines (suc u)))) || t) (s.joined u (k + 1) in_slot)
+      ap (λ (t : Bool). (t && not (has (k + 1) (facts_in (get_or changes u no_change).clears))) || has (k + 1) (facts_in (get_or changes u no_change).sets)) before
+      ∙ ap (λ (t : Bool). (state p lines u (k + 1) && not t) || has (k + 1) (facts_in (get_or changes u no_change).sets)) (c.clears u (k + 1) in_slot)
+      ∙ ap (λ (t : Bool). (state p lines u (k + 1) && not (any (λ a. has (k + 1) (p.clears a)) (slot lines (suc u)))) || t) (c.sets u (k + 1) in_slot)
       ∙ sym (ap (λ n. state p lines n (k + 1)) one)
 
-  fact_value : i % width p < p.facts → cond (eqb (i / width p) 0) (has (i % width p + 1) p.start) ((eqb (get_or known (i - width p) 0) 1 && not (has (i % width p + 1) (facts_in (get_or clears (i / width p - 1) empty_set)))) || has (i % width p + 1) (facts_in (get_or sets (i / width p - 1) empty_set))) ≡ state p lines (i / width p) (i % width p + 1)
+  fact_value : i % width p < p.facts → cond (eqb (i / width p) 0) (has (i % width p + 1) p.start) ((eqb (get_or known (i - width p) 0) 1 && not (has (i % width p + 1) (facts_in (get_or changes (i / width p - 1) no_change).clears))) || has (i % width p + 1) (facts_in (get_or changes (i / width p - 1) no_change).sets)) ≡ state p lines (i / width p) (i % width p + 1)
   fact_value l =
       ⊎_elim
       (λ (z : i / width p ≡ 0). cond-true (eqb (i / width p) 0) _ _ (eq-eqb (i / width p) 0 z) ∙ sym (ap (λ n. state p lines n (i % width p + 1)) z))
       (λ (ne : i / width p ≡ 0 → ⊥). cond-false (eqb (i / width p) 0) _ _ (ne_eqb (i / width p) 0 ne) ∙ later_value l ne)
       (cases_eq (i / width p) 0)
 
-  pub computed_valued : computed p marks clears sets known i ≡ valued p lines i
+  pub computed_valued : computed p marks changes known i ≡ valued p lines i
   computed_valued =
       ⊎_elim
       (λ (l : i % width p < p.facts). let b = lt-ltb (i % width p) p.facts l in cond-true _ _ _ b ∙ fact_value l ∙ sym (cond-true _ _ _ b))
@@ -107,3 +105,7 @@ built_more f bytes i v l e h =
 -- 32 slots of 64 facts and 128 steps, and the facts after the last
 pub most : (t f a : ℕ) → t ≤ 32 → f ≤ 64 → a ≤ 128 → t * (f + a) + f ≤ 6208
 most t f a h k l = let q = mul-le t (f + a) 32 192 h (omega arith) in omega (arith, q)
+
+-- the bytes that are built, told of equal parts
+pub builds_as : {p q : Problem} {t u : ℕ} {ls ms : List Line} (bytes : List ℕ) → p ≡ q → t ≡ u → ls ≡ ms → take (vars p t) bytes ≡ bytes_of (model p t ls) → take (vars q u) bytes ≡ bytes_of (model q u ms)
+builds_as {p} {q} {t} {u} {ls} {ms} bytes e k h d = subst (λ (x : Problem). take (vars x u) bytes ≡ bytes_of (model x u ms)) e (subst (λ n. take (vars p n) bytes ≡ bytes_of (model p n ms)) k (subst (λ (xs : List Line). take (vars p t) bytes ≡ bytes_of (model p t xs)) h d))

@@ -1,5 +1,6 @@
 -- The lines of a sheet, line by line.
 use Rattle.std.specs.Prelude.{ℕ, Bool, true, ◌&&◌, ◌||◌, List, [], ◌∷◌, ◌==◌, nat_le, nat_lt}
+use Rattle.std.specs.List.{list_all}
 use Rattle.rules.specs.declared.line.Line.{Line}
 
 -- by slot, then by step
@@ -15,7 +16,11 @@ abbrev pub leads : Line → List Line → Bool
 leads l [] = true
 leads l (m ∷ ms) = earlier l m
 
--- each line is named and leads
+-- each line leads
+abbrev pub rises : List Line → Bool
+rises [] = true
+rises (l ∷ ls) = leads l ls && rises ls
+
+-- each line leads and is named
 abbrev pub rows : ℕ → ℕ → List Line → Bool
-rows slots steps [] = true
-rows slots steps (l ∷ ls) = (named slots steps l && leads l ls) && rows slots steps ls
+rows slots steps ls = rises ls && list_all (named slots steps) ls

@@ -1,37 +1,50 @@
-// Whether lines are a sheet.
-ghost use Rattle.std.specs.Prelude.{◌≡◌, MatchBool};
+// Lines that are a sheet.
+ghost use Rattle.std.specs.Prelude.{◌≡◌, ◌≤◌, true, MatchOption};
 ghost use Rattle.rules.specs.Sheets.{Sheet};
 ghost use Rattle.problem.specs.Tables.{means};
-ghost use Rattle.assigning.specs.Rows.{earlier as earlier_line, named as named_line};
+ghost use Rattle.assigning.specs.Rows.{named as named_line, rows};
 
+use formula::Formula;
 use problem::StepTable;
 use rules::Line;
-
-fn earlier(l: Line, m: Line) -> bool
-    ensures compares_lines { result ≡ earlier_line l m }
-{
-    l.slot < m.slot || (l.slot == m.slot && l.step < m.step)
-}
 
 // Whether the line names one of the slots and one of the steps.
 fn named(slots: usize, steps: usize, l: Line) -> bool
     ensures answers_named { result ≡ named_line slots steps l }
 {
-    let slot = l.slot as usize;
-    let step = l.step as usize;
-    slot >= 1 && slot <= slots && step >= 1 && step <= steps
+    (1..=slots).contains(&usize::from(l.slot)) && (1..=steps).contains(&usize::from(l.step))
 }
 
-pub(crate) fn is_sheet(table: &StepTable, horizon: usize, lines: &[Line]) -> bool
-    ensures answers_sheet { MatchBool result (Sheet (means table.now) horizon lines.now) (Sheet (means table.now) horizon lines.now → ⊥) }
+fn is_sheet(table: &StepTable, horizon: usize, lines: &[Line]) -> bool
+    ensures tests_rows { result ≡ rows horizon table.now.steps lines.now }
 {
-    for i in 0..lines.len() {
-        if !named(horizon, table.steps, lines[i]) {
-            return false;
+    lines.is_sorted_by(|l, m| l < m) && lines.iter().all(|l| named(horizon, table.steps, *l))
+}
+
+// The lines of a sheet of the table's problem, of at most 32 slots. That they are one stands as a test: a ghost field's type is a fact with one proof, and a Sheet has many.
+#[derive(Clone, Copy)]
+pub(crate) struct SheetLines<'a> {
+    pub(crate) table: &'a StepTable,
+    pub(crate) horizon: usize,
+    pub(crate) lines: &'a [Line],
+    ghost few: { horizon ≤ 32 },
+    ghost sheet: { rows horizon table.now.steps lines.now ≡ true },
+}
+
+impl<'a> SheetLines<'a> {
+    // The lines, where they are a sheet of the formula's problem and horizon.
+    pub(crate) fn read<R>(formula: &'a Formula<'_, R>, lines: &'a [Line]) -> Option<SheetLines<'a>>
+        requires few_slots { formula.now.horizon ≤ 32 }
+        ensures answers_sheet { MatchOption result (Sheet (means formula.now.table) formula.now.horizon lines.now → ⊥) (λ sheet. Sheet (means formula.now.table) formula.now.horizon lines.now × (sheet.table.now ≡ formula.now.table) × (sheet.horizon ≡ formula.now.horizon) × (sheet.lines.now ≡ lines.now)) }
+    {
+        let horizon = formula.horizon as usize;
+        if !is_sheet(&formula.table, horizon, lines) {
+            return None;
         }
-        if i + 1 < lines.len() && !earlier(lines[i], lines[i + 1]) {
-            return false;
-        }
+        Some(SheetLines {
+            table: &formula.table,
+            horizon,
+            lines,
+        })
     }
-    true
 }

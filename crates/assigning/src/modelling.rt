@@ -1,5 +1,5 @@
 // Assign: the model of a sheet that holds.
-ghost use Rattle.std.specs.Prelude.{◌≡◌, length, is_ok, if◌then◌else◌};
+ghost use Rattle.std.specs.Prelude.{◌≡◌, ◌≤◌, length, is_ok, if◌then◌else◌};
 ghost use Rattle.rules.specs.Checks.{Answers};
 ghost use Rattle.rules.specs.Problems.{Sound};
 ghost use Rattle.rules.specs.Refusals.{answer};
@@ -10,8 +10,8 @@ ghost use Rattle.checking.specs.Told.{bytes_of};
 ghost use Rattle.assigning.specs.Assign.{assign_tests, Assigns};
 ghost use Rattle.assigning.specs.Returned.{UndoesDecode};
 
-use crate::building::build;
-use crate::lines::is_sheet;
+use crate::gathering::SlotTable;
+use crate::lines::SheetLines;
 use checking::meets_formula;
 use formula::Formula;
 use problem::Problem;
@@ -32,10 +32,8 @@ fn assign_sheet<R: SlotRule>(
     if truth.len() != variables {
         return Err(Refusal::BadTruthMemory);
     }
-    if !is_sheet(&formula.table, formula.horizon as usize, lines) {
-        return Err(Refusal::BadSheetLines);
-    }
-    let bytes = build(&formula.table, formula.horizon as usize, lines);
+    let sheet = SheetLines::read(formula, lines).ok_or(Refusal::BadSheetLines)?;
+    let bytes = SlotTable::of(sheet).build();
     let built = &bytes[..variables];
     if !meets_formula(formula, built) {
         return Err(Refusal::SheetDoesNotHold);
