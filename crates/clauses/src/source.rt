@@ -34,7 +34,7 @@ pub trait Source {
         ensures reads_word { Reads (rest self.now place) (rest self.now) result }
         ensures goes_on { IfSome result (λ p. (place < p.1) × (p.1 ≤ end self.now)) };
 
-    // Where clause n begins, counted from 1.
+    // Where clause n begins, counted from 1. These three walk word by word, since a source is asked by place: an iterator over words would be one more type for them alone.
     fn clause_start(&self, n: usize) -> Option<usize>
         ensures begins_clause { Begins (held self.now) (rest self.now) n result }
     {

@@ -1,4 +1,4 @@
-// How many lines the truth bytes make.
+// How many lines the truth bytes make. Tried: `filter` and `count`, and `map` and `sum`, which leave open what the closure asks of its slot.
 ghost use Rattle.std.specs.Prelude.{◌≡◌, ◌<◌, ◌≤◌, length};
 ghost use Rattle.rules.specs.Clauses.{value};
 ghost use Rattle.rules.specs.Sheets.{sheet_of};

@@ -24,7 +24,7 @@ fn numbered(heap: Global, number: usize, answer: &[u8]) -> Result<Vec<u8>, Alloc
     Ok(out)
 }
 
-// Writes what a call answers for each record, under its number, counted from 1; the first bytes that are no record end them.
+// Writes what a call answers for each record, under its number, counted from 1; the first bytes that are no record end them. Where a record ends is known only once it is cut, so that the loop goes by what is left.
 pub fn answer_cases<R: Read + Drop, W: Write, F: Fn(&[u8]) -> Result<Vec<u8>, AllocError> + Drop>(
     heap: Global,
     mut input: R,

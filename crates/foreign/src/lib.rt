@@ -1,4 +1,4 @@
-// Calls for programs in other languages: a slice passes as a pointer and a length. The benchmark links them.
+// Calls for programs in other languages: a slice passes as a pointer and a length, and the rule as its number, since C has no other form. The benchmark links them.
 #![tactic(auto)]
 
 ghost use Rattle.std.specs.Prelude.{◌≡◌, length};

@@ -1,4 +1,4 @@
-// Reading an answer, decode and assign for programs in other languages.
+// Reading an answer, decode and assign for programs in other languages, whose interface fixes their parameters.
 ghost use Rattle.std.specs.Prelude.{min, length};
 ghost use Rattle.rules.specs.Checks.{Answers};
 ghost use Rattle.rules.specs.Refusals.{answer as answer_of};

@@ -1,4 +1,4 @@
-// Whoever is shown the clauses of a formula, one after another, is a closure. What it changes is passed beside it, so that it can be a sink that the caller lends: what a closure captures and changes is unknown to its caller afterwards.
+// Whoever is shown the clauses of a formula, one after another, is a closure. What it changes is passed beside it, so that it can be a sink that the caller lends: what a closure captures and changes is unknown to its caller afterwards. So the two travel together.
 ghost use Rattle.rules.specs.Lists.{only};
 ghost use Rattle.formula.specs.Visits.{Shown, Visits};
 

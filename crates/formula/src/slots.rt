@@ -6,7 +6,7 @@ ghost use Rattle.formula.specs.Effects.{effect_literal};
 
 use problem::{Part, StepTable};
 
-// Slot `before` + 1 of a problem: `before` counts the slots that come earlier.
+// Slot `before` + 1 of a problem: `before` counts the slots that come earlier. That a fact is at most 64 and a step at most 128 each function asks for itself: the loops make these numbers from 1 on, and a type for them would be made and taken apart at each.
 #[derive(Clone, Copy)]
 pub(crate) struct Slot<'a> {
     pub(crate) table: &'a StepTable,

@@ -1,6 +1,6 @@
 ghost use Rattle.std.specs.Prelude.{◌≤◌, length};
 
-// Up to 1048576 items in memory that is lent.
+// Up to 1048576 items in memory that is lent: a length beside it, since no heap is used.
 #[derive(Drop)]
 pub struct List<'a, T> {
     memory: &'a mut [T],

@@ -1,4 +1,4 @@
-// Encode into memory that the caller lends: what all of it holds afterwards.
+// Encode into memory that the caller lends: what all of it holds afterwards. One function for each sink: a trait over both would need six laws for these six lines. The problem, the horizon and the rule stand in each call as they do in encode.
 ghost use Rattle.std.specs.Prelude.{◌≡◌, [], length};
 ghost use Rattle.rules.specs.Refusals.{answer};
 ghost use Rattle.rules.specs.Checks.{first_refusal};

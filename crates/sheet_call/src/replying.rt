@@ -1,4 +1,4 @@
-// What `sheet` does: T, the rule, a problem and a solver's answer become the lines of a sheet.
+// What `sheet` does: T, the rule, a problem and a solver's answer become the lines of a sheet. The problem, T and the rule go on together to decode, which takes them so; T is at most 32, since the request was read.
 ghost use Rattle.std.specs.Prelude.{◌≡◌, ◌≤◌, ◌⊎◌, length, IfOk};
 ghost use Rattle.rules.specs.Formula.{vars};
 ghost use Rattle.problem.specs.Listed.{problem_of};

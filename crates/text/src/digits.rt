@@ -17,7 +17,7 @@ pub(crate) fn digit_count(n: u32) -> usize
         + (n >= 100_000) as usize
 }
 
-// The bytes of a literal and its space.
+// The bytes of a literal and its space. Who counts a line asks that its clause is good: one plain condition of three private functions, and a type of its own would be made for each clause that is added.
 fn literal_cost(l: i32) -> usize
     requires good { bad_literal 999999 l ≡ false }
     ensures counts_bytes { result ≡ length (literal_text l) }

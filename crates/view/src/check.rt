@@ -9,7 +9,7 @@ use lines::read_number;
 // The most literals of a clause.
 const LONGEST: usize = 130;
 
-// Whether a body is so many clauses over so many variables.
+// Whether a body is so many clauses over so many variables. Two counters, since a clause has no end but its 0: no method of the library counts both.
 pub(crate) fn clauses_fit(body: &[u8], variables: usize, clauses: usize) -> bool
     ensures tells_clauses { result ≡ completes variables clauses 0 0 (words_of body.now) }
 {
