@@ -1,5 +1,6 @@
 // What `write` does: T, the rule and a problem become clause text.
 ghost use Rattle.std.specs.Prelude.{◌≡◌, ◌≤◌, length, IfOk};
+ghost use Rattle.steps.specs.Named.{rule_named};
 ghost use Rattle.problem.specs.Listed.{problem_of};
 ghost use Rattle.requests.specs.Written.{problem_text, written};
 ghost use Rattle.requests.specs.Asked.{RequestChecked};
@@ -12,7 +13,7 @@ use planner::encode;
 use problem::{Problem, read_problem};
 use rules::Refusal;
 use std::alloc::{AllocError, Global};
-use steps::{RuleName, SlotRule};
+use steps::RuleName;
 use text::text_sink;
 
 // The two numbers before the problem: refused by 1 and 3 for the input's length, then by 7.
@@ -37,22 +38,21 @@ pub fn read_request(input: &[u8]) -> Result<Request, Refusal>
 }
 
 // The text of the problem's clauses, or `refused 9` where the memory has no space for their lines.
-fn write_problem<R: SlotRule>(
+fn write_problem(
     heap: Global,
     problem: &Problem,
-    horizon: usize,
-    rule: &R,
+    request: Request,
     memory: &mut [u8],
 ) -> Result<Vec<u8>, AllocError>
-    requires few_slots { horizon ≤ 32 }
+    requires few_slots { request.horizon ≤ 32 }
     requires space { length memory.old ≡ 65536 }
-    ensures prints_problem { IfOk result (λ out. out.items ≡ problem_text (problem_of problem.now.bytes.now) (R.SlotRule.parts rule.now) horizon) }
+    ensures prints_problem { IfOk result (λ out. out.items ≡ problem_text (problem_of problem.now.bytes.now) (rule_named request.rule) request.horizon) }
 {
     let mut sink = text_sink(memory);
-    if let Err(refusal) = encode(problem, horizon, rule, &mut sink) {
+    if let Err(refusal) = encode(problem, request.horizon, &request.rule, &mut sink) {
         return refused_text(heap, refusal);
     }
-    match sizes(problem, horizon, rule) {
+    match sizes(problem, request.horizon, &request.rule) {
         Ok((variables, clauses, _)) => clause_text(heap, variables, clauses, sink.text()),
         Err(refusal) => refused_text(heap, refusal),
     }
@@ -71,5 +71,5 @@ pub fn write_request(heap: Global, input: &[u8]) -> Result<Vec<u8>, AllocError>
         return refused_text(heap, refusal);
     }
     let mut memory = vec![in heap; 0u8; 65536]?;
-    write_problem(heap, &problem, request.horizon, &request.rule, &mut memory)
+    write_problem(heap, &problem, request, &mut memory)
 }

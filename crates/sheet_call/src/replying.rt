@@ -1,6 +1,7 @@
-// What `sheet` does: T, the rule, a problem and a solver's answer become the lines of a sheet. The problem, T and the rule go on together to decode, which takes them so; T is at most 32, since the request was read.
+// What `sheet` does: T, the rule, a problem and a solver's answer become the lines of a sheet. T is at most 32, since the request was read: said of each function, since a request is a plain type that anyone may make.
 ghost use Rattle.std.specs.Prelude.{◌≡◌, ◌≤◌, ◌⊎◌, length, IfOk};
 ghost use Rattle.rules.specs.Formula.{vars};
+ghost use Rattle.steps.specs.Named.{rule_named};
 ghost use Rattle.problem.specs.Listed.{problem_of};
 ghost use Rattle.checking.specs.Told.{told, TruthBytes};
 ghost use Rattle.sheet_call.specs.Replied.{problem_length, SheetPrinted, NoModel, Replied, NoReply, SheetTold};
@@ -11,10 +12,9 @@ use decoding::decode;
 use formula::sizes;
 use memory::List;
 use problem::{Problem, read_problem};
-use requests::{read_request, refused_text};
+use requests::{Request, read_request, refused_text};
 use rules::Line;
 use std::alloc::{AllocError, Global};
-use steps::SlotRule;
 
 // No sheet has more: 32 slots of 128 steps.
 const MOST_LINES: usize = 4096;
@@ -32,60 +32,57 @@ fn problem_end(bytes: &[u8]) -> usize
 }
 
 // The sheet of a model, or `refused 15`.
-fn print_model<R: SlotRule>(
+fn print_model(
     heap: Global,
     problem: &Problem,
-    horizon: usize,
-    rule: &R,
+    request: Request,
     truth: &[u8],
 ) -> Result<Vec<u8>, AllocError>
-    requires few_slots { horizon ≤ 32 }
-    requires truth_bytes { TruthBytes (vars (problem_of problem.now.bytes.now) horizon) truth.now }
-    ensures prints_model { IfOk result (λ out. SheetPrinted (problem_of problem.now.bytes.now) (R.SlotRule.parts rule.now) horizon (told truth.now) out.items ⊎ NoModel (problem_of problem.now.bytes.now) (R.SlotRule.parts rule.now) horizon (told truth.now) out.items) }
+    requires few_slots { request.horizon ≤ 32 }
+    requires truth_bytes { TruthBytes (vars (problem_of problem.now.bytes.now) request.horizon) truth.now }
+    ensures prints_model { IfOk result (λ out. SheetPrinted (problem_of problem.now.bytes.now) (rule_named request.rule) request.horizon (told truth.now) out.items ⊎ NoModel (problem_of problem.now.bytes.now) (rule_named request.rule) request.horizon (told truth.now) out.items) }
 {
     let mut memory = vec![in heap; Line { slot: 0, step: 0 }; MOST_LINES]?;
     let mut sheet = List::new(&mut memory);
-    if let Err(refusal) = decode(problem, horizon, rule, truth, &mut sheet) {
+    if let Err(refusal) = decode(problem, request.horizon, &request.rule, truth, &mut sheet) {
         return refused_text(heap, refusal);
     }
     sheet_text(heap, sheet.as_slice())
 }
 
 // What the answer comes to for the problem, with a byte of memory for each variable.
-fn print_answer<R: SlotRule>(
+fn print_answer(
     heap: Global,
     problem: &Problem,
-    horizon: usize,
-    rule: &R,
+    request: Request,
     answer: &[u8],
     truth: &mut [u8],
 ) -> Result<Vec<u8>, AllocError>
-    requires few_slots { horizon ≤ 32 }
-    requires long { length truth.old ≡ vars (problem_of problem.now.bytes.now) horizon }
-    ensures prints_answer { IfOk result (λ out. Replied (problem_of problem.now.bytes.now) (R.SlotRule.parts rule.now) horizon answer.now out.items ⊎ NoReply (problem_of problem.now.bytes.now) horizon answer.now out.items) }
+    requires few_slots { request.horizon ≤ 32 }
+    requires long { length truth.old ≡ vars (problem_of problem.now.bytes.now) request.horizon }
+    ensures prints_answer { IfOk result (λ out. Replied (problem_of problem.now.bytes.now) (rule_named request.rule) request.horizon answer.now out.items ⊎ NoReply (problem_of problem.now.bytes.now) request.horizon answer.now out.items) }
 {
     match read_answer(answer, truth.len(), truth) {
-        Ok(Status::Satisfiable) => print_model(heap, problem, horizon, rule, truth),
+        Ok(Status::Satisfiable) => print_model(heap, problem, request, truth),
         Ok(Status::Unsatisfiable) => Ok(format!(in heap; "none claimed\n")?.into_bytes()),
         Ok(Status::Unknown) => Ok(format!(in heap; "unknown\n")?.into_bytes()),
         Err(refusal) => refused_text(heap, refusal),
     }
 }
 
-fn print_reply<R: SlotRule>(
+fn print_reply(
     heap: Global,
     problem: &Problem,
-    horizon: usize,
-    rule: &R,
+    request: Request,
     answer: &[u8],
 ) -> Result<Vec<u8>, AllocError>
-    requires few_slots { horizon ≤ 32 }
-    ensures prints_reply { IfOk result (λ out. Replied (problem_of problem.now.bytes.now) (R.SlotRule.parts rule.now) horizon answer.now out.items ⊎ NoReply (problem_of problem.now.bytes.now) horizon answer.now out.items) }
+    requires few_slots { request.horizon ≤ 32 }
+    ensures prints_reply { IfOk result (λ out. Replied (problem_of problem.now.bytes.now) (rule_named request.rule) request.horizon answer.now out.items ⊎ NoReply (problem_of problem.now.bytes.now) request.horizon answer.now out.items) }
 {
-    match sizes(problem, horizon, rule) {
+    match sizes(problem, request.horizon, &request.rule) {
         Ok((variables, _, _)) => {
             let mut truth = vec![in heap; 0u8; variables]?;
-            print_answer(heap, problem, horizon, rule, answer, &mut truth)
+            print_answer(heap, problem, request, answer, &mut truth)
         }
         Err(refusal) => refused_text(heap, refusal),
     }
@@ -106,5 +103,5 @@ pub fn sheet_request(heap: Global, input: &[u8]) -> Result<Vec<u8>, AllocError>
         return refused_text(heap, refusal);
     }
     let answer = &rest[end..];
-    print_reply(heap, &problem, request.horizon, &request.rule, answer)
+    print_reply(heap, &problem, request, answer)
 }
