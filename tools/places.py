@@ -96,7 +96,7 @@ def groups():
 
 
 def index_loops():
-    """Loops over a range whose variable is an index in the body, and `while` loops."""
+    """Loops over a range whose variable is an index in the body, and `while` loops that move a number on."""
     found = []
     for path in files:
         text = "\n".join(line for _, line in lines(path))
@@ -106,7 +106,7 @@ def index_loops():
                 depth += {"{": 1, "}": -1}.get(text[i], 0)
                 i += 1
             body = text[m.end() : i]
-            if m.group(1) is None or re.search(rf"\[[^\[\]]*\b{m.group(1)}\b[^\[\]]*\]|pair\({m.group(1)}\)", body):
+            if m.group(1) is None and re.search(r"[+-]= |\bplace = ", body) or m.group(1) and re.search(rf"\[[^\[\]]*\b{m.group(1)}\b[^\[\]]*\]|pair\({m.group(1)}\)", body):
                 place = f"{path.relative_to(root)}:{text[: m.start()].count(chr(10)) + 1}"
                 found.append((place, m.group(0)))
     return found
@@ -115,7 +115,7 @@ def index_loops():
 points = [
     ("1 a number or a flag for nothing, a kind or a refusal", lambda: search(r"^pub fn .*-> u8$", r"Result<\(\), \(\)>", r"^\s+\d+ => \w+\(&", r"\brule == \d", r": bool,$", r"^\s*Refusal::\w+ => \d+,")),
     ("2 functions of one name", same_names),
-    ("3 loops over an index, and while", index_loops),
+    ("3 loops that count an index by hand", index_loops),
     ("4 conversions, order and text by hand", lambda: search(r"as usize \+ 256 \*", r"256 \* \w+\[", r"fn (earlier|refusal_number|with_sign|number_in|told|status|done)\(", r'"\{slot\} \{step\}', r"l\.slot < m\.slot")),
     ("5a facts required by three or more functions", repeated_requires),
     ("5b parameters that travel together", groups),
