@@ -69,8 +69,7 @@ def repeated_requires():
         for body in re.findall(r"requires(?: \w+)? \{ (.*?) \}\n", clauses + "\n"):
             for fact in re.split(r" × ", body):
                 fact = fact.replace("(", "").replace(")", "").strip()
-                if "IsAlwaysCallable" not in fact:
-                    by_fact[(crate, fact)].add((place, name))
+                by_fact[(crate, fact)].add((place, name))
     return [
         (f"{crate}: {fact}", ", ".join(sorted(n for _, n in where)))
         for (crate, fact), where in sorted(by_fact.items())

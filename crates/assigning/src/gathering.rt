@@ -52,7 +52,7 @@ impl<'a> SheetLines<'a> {
     }
 }
 
-// The lines of a sheet by slot: 128 places for each of 32 slots, true where the step stands in the slot, and what each slot changes. The arrays are fixed memory: no heap.
+// The lines of a sheet by slot: 128 places for each of 32 slots, true where the step stands in the slot, and what each slot changes. The arrays are fixed memory: no heap. The marks stay in an array of their own: a struct with an array for each slot would be written through two indexes in place of one.
 #[derive(Drop)]
 pub(crate) struct SlotTable<'a> {
     pub(crate) sheet: SheetLines<'a>,

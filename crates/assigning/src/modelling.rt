@@ -18,7 +18,7 @@ use problem::Problem;
 use rules::{Line, Refusal};
 use steps::SlotRule;
 
-// The same of a formula: everything but the horizon is still to be asked.
+// Assign for a formula: the horizon was asked, the rest is asked here.
 fn assign_sheet<R: SlotRule>(
     formula: &Formula<R>,
     lines: &[Line],

@@ -1,4 +1,4 @@
--- Truth bytes as values, and what a visitor that checks clauses by them comes to.
+-- Truth bytes as values, and what a closure that checks clauses by them comes to.
 use Rattle.std.proofs.Common.{◌≡◌, ℕ, zero, suc, ◌+◌, ◌<◌, Bool, true, false, ◌||◌, eqb, List, [], ◌∷◌, length, get_or, drop, is_ok, ℤ, Ok, Err, MatchBool, Result, sym, refl, ap, ◌∙◌, subst, inl, inr}
 use mathlib.Core.Bool.{false≢true}
 use Rattle.std.proofs.lemmas.List.{at_drop_more}

@@ -8,7 +8,7 @@ use crate::source::Source;
 use rules::Refusal;
 
 // A sink is a source that also takes clauses. It means, besides, a capacity and a cost for each clause.
-// No method has a default body: each reads or writes the memory, which every sink keeps in a form of its own.
+// No method has a default body: what a clause costs, what space is left and how a clause is added each sink answers by a form of its own.
 pub trait Sink: Source {
     ghost capacity: { Self → ℕ };
 

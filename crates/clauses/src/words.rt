@@ -11,7 +11,7 @@ pub mod taking;
 // The widest variable.
 const WIDEST: usize = 4096;
 
-// The first `used` words stand for clauses, of which there are `count`. The memory is the caller's: no heap is used.
+// The first `used` words stand for clauses, of which there are `count`. The memory is the caller's: no heap is used, and a `memory::List` would hold no more than 1,048,576 of its words.
 #[derive(Drop)]
 pub struct WordSink<'a> {
     words: &'a mut [i32],

@@ -30,7 +30,7 @@ fn all_bits(truth: &[u8]) -> bool
     truth.iter().all(|b| *b <= TRUE)
 }
 
-// The same of a formula: everything but the horizon is still to be asked.
+// Decode for a formula: the horizon was asked, the rest is asked here.
 fn decode_model<R: SlotRule>(
     formula: &Formula<R>,
     truth: &[u8],

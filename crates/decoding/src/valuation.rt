@@ -18,7 +18,7 @@ pub(crate) struct Valuation<'a> {
 }
 
 impl<'a> Valuation<'a> {
-    // Whether step a stands in slot u + 1. The slot is a number, here and in the two functions that go through one: it becomes the number of a line.
+    // Whether step a stands in slot u + 1. The slot is a number, here and in the two functions that go through one: it becomes the number of a line, and the slot of the formula crate may be any of 65,536.
     pub(crate) fn has_step(&self, u: usize, a: usize) -> bool
         requires few_slots { u < 32 }
         requires few_steps { a ≤ 128 }

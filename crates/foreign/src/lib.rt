@@ -1,4 +1,4 @@
-// Calls for programs in other languages: a slice passes as a pointer and a length, and the rule as its number, since C has no other form. The benchmark links them.
+// Calls for programs in other languages: a slice passes as a pointer and a length, and the rule as its number, since C has no other form. Each call fills a problem that it holds, as no Result carries one, and then takes the rule. The benchmark links them.
 #![tactic(auto)]
 
 ghost use Rattle.std.specs.Prelude.{◌≡◌, length};

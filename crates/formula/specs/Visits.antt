@@ -1,4 +1,4 @@
--- What a visitor comes to over a list of clauses, from what it does at one.
+-- What a closure that is shown clauses comes to over a list of them, from what it does at one.
 use Rattle.std.specs.Prelude.{◌≡◌, ◌⊎◌, List, [], ◌∷◌, ℤ, Ok, Err, Result}
 use Rattle.std.specs.Fn.{Shared}
 use denote.Ref.{Bor, MutBor}

@@ -1,4 +1,4 @@
-// Whoever is shown the clauses of a formula, one after another, is a closure. What it changes is passed beside it, so that it can be a sink that the caller lends: what a closure captures and changes is unknown to its caller afterwards. So the two travel together.
+// Whoever is shown the clauses of a formula, one after another, is a closure. What it changes is passed beside it, so that it can be a sink that the caller lends: what a closure captures and changes is unknown to its caller afterwards. So the two travel together, and each function asks that the closure may be called: a struct that holds it with that fact would have to name the state's and the error's types as well.
 ghost use Rattle.rules.specs.Lists.{only};
 ghost use Rattle.formula.specs.Visits.{Shown, Visits};
 

@@ -9,7 +9,7 @@ use problem::{Problem, StepTable};
 use rules::Refusal;
 use steps::SlotRule;
 
-// The formula of a problem, read into a table, for so many slots that a rule allows. Every 16-bit horizon fits the literals.
+// The formula of a problem, read into a table, for so many slots that a rule allows. Every 16-bit horizon fits the literals; the ghost field tells proofs what the type says.
 #[derive(Drop)]
 pub struct Formula<'a, R> {
     pub table: StepTable,

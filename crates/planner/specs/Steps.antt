@@ -1,4 +1,4 @@
--- What the two visitors of encode do at one clause.
+-- What the two closures of encode do at one clause.
 use Rattle.std.specs.Prelude.{◌≡◌, ℕ, ◌+◌, ◌-◌, ◌^◌, ◌<◌, List, ℤ, Result}
 use Rattle.std.specs.Borrow.{GName}
 use Rattle.rules.specs.declared.refusal.Refusal.{Refusal}

@@ -1,4 +1,4 @@
-// What `sheet` does: T, the rule, a problem and a solver's answer become the lines of a sheet. T is at most 32, since the request was read: said of each function, since a request is a plain type that anyone may make.
+// What `sheet` does: T, the rule, a problem and a solver's answer become the lines of a sheet. T is at most 32, since the request was read: said of each function, since a request is a plain type that anyone may make. Each takes what the next one takes: a struct of these would be made once and taken apart once.
 ghost use Rattle.std.specs.Prelude.{◌≡◌, ◌≤◌, ◌⊎◌, length, IfOk};
 ghost use Rattle.rules.specs.Formula.{vars};
 ghost use Rattle.steps.specs.Named.{rule_named};

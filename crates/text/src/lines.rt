@@ -13,7 +13,7 @@ pub mod taking;
 // The widest variable.
 const WIDEST: usize = 999_999;
 
-// The first `used` bytes are the lines of the clauses, of which there are `count`. The memory is the caller's: no heap is used. No struct shared with the word sink:
+// The first `used` bytes are the lines of the clauses, of which there are `count`. The memory is the caller's: no heap is used, and a `memory::List` would hold no more than 1,048,576 of its bytes. No struct shared with the word sink:
 // each fact but the first is about how this memory is read.
 #[derive(Drop)]
 pub struct TextSink<'a> {

@@ -11,7 +11,7 @@ fn pushed(size: u32, b: u8) -> u32
     (10 * size + (b % 16) as u32) % 1_048_576
 }
 
-// The view's reader does the same to a `Numeral`; this crate knows no `lines`.
+// Two lines, as view has for a `Numeral`: shared, they would make this crate rest on `lines` for them alone.
 fn with_sign(minus: bool, size: u32) -> i32
     requires small { size < 1048576 }
     ensures puts_sign { result ≡ signed_by minus size }

@@ -5,7 +5,7 @@ ghost use Rattle.text.specs.Lines.{literal_text, line_text};
 
 use crate::digits::digit_count;
 
-// Writes a literal and a space, and says how many bytes they take. The digits come last first, so the loop goes down by index; formatting would want a heap.
+// Writes a literal and a space, and says how many bytes they take. The digits come last first, so the loop goes down by index; formatting into the bytes would answer an error that cannot come, and not say how many it wrote.
 fn put_literal(bytes: &mut [u8], l: i32) -> usize
     requires room { length (literal_text l) ≤ length bytes.old }
     requires good { bad_literal 999999 l ≡ false }
