@@ -30,7 +30,7 @@ invariant_of-self-2 c =
     let s = c.args.self.now in
     let ws = s.words.now in
     let xs = c.args.clause.now in
-    let w = put_clause s.used s.words.now c.args.clause.now c.copy_from_slice.new.self c.copy_from_slice.ensures.after (omega arith) s.closed (sym c.if-bad_clause.ensures.tells_bad_clause) in
+    let w = put_clause s.used s.words.now c.args.clause.now c.put_words.new.words c.put_words.ensures.after (omega arith) s.closed (sym c.if-bad_clause.ensures.tells_bad_clause) in
     record {
       within = w.within;
       closed = w.closed;
@@ -50,7 +50,7 @@ returns-clause-grants_where_space c =
 pub returns-clause-stands_last : goal.returns-clause-stands_last
 returns-clause-stands_last c =
     let s = c.args.self.now in
-    let w = put_clause s.used s.words.now c.args.clause.now c.copy_from_slice.new.self c.copy_from_slice.ensures.after (omega arith) s.closed (sym c.if-bad_clause.ensures.tells_bad_clause) in
+    let w = put_clause s.used s.words.now c.args.clause.now c.put_words.new.words c.put_words.ensures.after (omega arith) s.closed (sym c.if-bad_clause.ensures.tells_bad_clause) in
     w.held
 
 pub returns-clause-leaves_the_rest : goal.returns-clause-leaves_the_rest
@@ -60,5 +60,5 @@ returns-clause-leaves_the_rest c =
     let xs = c.args.clause.now in
     let p = cond-false (bad_clause 4096 xs) 0 (length xs + 1) (sym c.if-bad_clause.ensures.tells_bad_clause) in
     let sum : s.used + length xs + 1 ≡ s.used + word_cost xs = omega arith in
-    let w = put_clause s.used s.words.now c.args.clause.now c.copy_from_slice.new.self c.copy_from_slice.ensures.after (omega arith) s.closed (sym c.if-bad_clause.ensures.tells_bad_clause) in
+    let w = put_clause s.used s.words.now c.args.clause.now c.put_words.new.words c.put_words.ensures.after (omega arith) s.closed (sym c.if-bad_clause.ensures.tells_bad_clause) in
     w.rest ∙ ap (λ n. drop n ws) sum ∙ sym (drop-drop (word_cost xs) s.used ws)
