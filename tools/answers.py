@@ -25,7 +25,10 @@ with tempfile.TemporaryDirectory() as folder:
             answered[where] = re.findall(r"^pub (\S+) : goal\.\1$", path.read_text(), re.M)
             path.unlink()
         run = subprocess.run(["rt", "check", "--allow-holes"], cwd=crate, capture_output=True, text=True)
-        left = dict(re.findall(rf"fn {name}::(\S+): no proof: .*?did not prove (.*)", run.stdout + run.stderr))
+        said = run.stdout + run.stderr
+        if not re.search(r"^logic=|no holes$", said, re.M):
+            sys.exit(f"{name}: the check did not come to an end:\n{said[-2000:]}")
+        left = dict(re.findall(rf"fn {name}::(\S+): no proof: .*?did not prove (.*)", said))
         for where, goals in sorted(answered.items()):
             open_here = re.findall(r"`([^`]+)`", left.get(where, "").split("; it calls")[0])
             print(f"{name} {where}: {len(goals)} answered; open without: {', '.join(open_here) or 'none'}", flush=True)
