@@ -48,7 +48,7 @@ pub ends_app : (b : Bool) (xs ys : List ℤ) → ends b (xs ++ ys) ≡ ends (end
 ends_app b [] ys = refl
 ends_app b (x ∷ xs) ys = ends_app (is_zero x) xs ys
 
-flat_onto : (l : ℤ) (cs : List Clause) → some_clause cs ≡ true → flat (onto l cs) ≡ l ∷ flat cs
+pub flat_onto : (l : ℤ) (cs : List Clause) → some_clause cs ≡ true → flat (onto l cs) ≡ l ∷ flat cs
 flat_onto l [] h = absurd (false≢true h)
 flat_onto l (c ∷ cs) h = refl
 

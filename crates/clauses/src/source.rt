@@ -1,5 +1,5 @@
 // Where clauses are read from.
-ghost use Rattle.std.specs.Prelude.{◌≡◌, ℕ, ◌<◌, ◌≤◌, List, length, IfSome};
+ghost use Rattle.std.specs.Prelude.{◌≡◌, ℕ, List, length};
 ghost use Rattle.rules.specs.Clauses.{Clause};
 ghost use Rattle.clauses.specs.Asked.{Bounded, length_at, literal_at};
 ghost use Rattle.clauses.specs.Walk.{Begins, Reads};
@@ -16,9 +16,6 @@ pub trait Source {
     // The clauses from a place on, the first of them from its literal there on.
     ghost rest: { Self → ℕ → List Clause };
 
-    // The last place that a walk can reach.
-    ghost end: { Self → ℕ };
-
     fn clause_count(&self) -> usize
         ensures counts_clauses { result ≡ length (held self.now) };
 
@@ -31,8 +28,7 @@ pub trait Source {
 
     // The word at a place, a literal or the 0 that closes a clause, and the place after it. One walk is linear in the literals.
     fn word_at(&self, place: usize) -> Option<(i32, usize)>
-        ensures reads_word { Reads (rest self.now place) (rest self.now) result }
-        ensures goes_on { IfSome result (λ p. (place < p.1) × (p.1 ≤ end self.now)) };
+        ensures reads_word { Reads (rest self.now place) (rest self.now) result };
 
     // Where clause n begins, counted from 1. These three walk word by word, since a source is asked by place: an iterator over words would be one more type for them alone.
     fn clause_start(&self, n: usize) -> Option<usize>

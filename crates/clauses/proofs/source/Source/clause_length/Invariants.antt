@@ -1,10 +1,13 @@
-use Rattle.std.proofs.Common.{◌≡◌, ◌-◌, ◌≤◌}
+use Rattle.std.proofs.Common.{◌≡◌, ◌^◌, length}
 use Rattle.clauses.specs.Asked.{length_at}
-use Rattle.clauses.proofs.Walks.{more, first_length}
+use Rattle.clauses.specs.Rows.{flat}
+use Rattle.clauses.proofs.Walks.{more, first_length, Passed}
 use Rattle.clauses.proofs.source.Source.clause_length.Given as goal
 
 abbrev pub invariant-loop-word : goal.invariant-loop-word
-invariant-loop-word g l = (l.length ≤ l.place) × (length_at (g.Self.Source.held l.self) l.n ≡ more l.length (first_length (g.Self.Source.rest l.self l.place)))
+invariant-loop-word g l =
+    Passed (g.Self.Source.rest l.self) (2 ^ 64) (length (flat (g.Self.Source.rest l.self l.place))) l.length
+    × (length_at (g.Self.Source.held l.self) l.n ≡ more l.length (first_length (g.Self.Source.rest l.self l.place)))
 
 abbrev pub decreases-loop-word : goal.decreases-loop-word
-decreases-loop-word g l = g.Self.Source.end l.self - l.place
+decreases-loop-word g l = length (flat (g.Self.Source.rest l.self l.place))
