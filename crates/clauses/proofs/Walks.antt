@@ -2,7 +2,6 @@
 use Rattle.std.proofs.Common.{◌≡◌, ◌∙◌, ℕ, zero, suc, ◌+◌, ◌<◌, ◌≤◌, cond, eqb, List, length, ℤ, pos, negsuc, Some, None, Option, ap, sym, refl, subst, arith}
 use Rattle.std.proofs.lemmas.Bool.{cond_both, eqb-true, eqb-false}
 use Rattle.rules.specs.Clauses.{Clause}
-use Rattle.clauses.specs.Asked.{at0, length_of, literal_of}
 use Rattle.clauses.specs.Walk.{Word}
 use Rattle.clauses.specs.Rows.{flat}
 use Rattle.clauses.proofs.Rows.{flat_onto}
@@ -11,13 +10,6 @@ use Rattle.clauses.proofs.Rows.{flat_onto}
 abbrev pub more : ℕ → Option ℕ → Option ℕ
 more k None = None
 more k (Some n) = Some (k + n)
-
-abbrev pub first_length : List Clause → Option ℕ
-first_length cs = length_of (at0 cs 0)
-
--- literal k of the first clause, counted from 0
-abbrev pub pick : List Clause → ℕ → Option ℤ
-pick cs k = literal_of (at0 cs 0) (suc k)
 
 -- a word fewer is left after each word that is read
 pub one_less : (x : ℤ) (cs ds : List Clause) → Word x cs ds → length (flat cs) ≡ suc (length (flat ds))
@@ -43,17 +35,17 @@ few_below (suc n) zero g below differ = omega arith
 few_below (suc n) (suc k) g below differ =
     let last = suc k in
     let lower : (j : ℕ) → j ≤ k → swapped g n last j < n =
-      λ j l. cond_both (eqb (g j) n) (g last) (g j) (λ v. v < n)
-        (λ e. not_last n (g last) (below last (omega arith)) (λ q. omega (arith, differ j last (omega arith) (omega arith) (eqb-true (g j) n e ∙ sym q))))
-        (λ e. not_last n (g j) (below j (omega arith)) (eqb-false (g j) n e)) in
+    λ j l. cond_both (eqb (g j) n) (g last) (g j) (λ v. v < n)
+    (λ e. not_last n (g last) (below last (omega arith)) (λ q. omega (arith, differ j last (omega arith) (omega arith) (eqb-true (g j) n e ∙ sym q))))
+    (λ e. not_last n (g j) (below j (omega arith)) (eqb-false (g j) n e)) in
     let still : (i j : ℕ) → i ≤ k → j ≤ k → swapped g n last i ≡ swapped g n last j → i ≡ j =
-      λ i j l m. cond_both (eqb (g i) n) (g last) (g i) (λ v. v ≡ swapped g n last j → i ≡ j)
-        (λ e. cond_both (eqb (g j) n) (g last) (g j) (λ w. g last ≡ w → i ≡ j)
-          (λ f q. differ i j (omega arith) (omega arith) (eqb-true (g i) n e ∙ sym (eqb-true (g j) n f)))
-          (λ f q. absurd (omega (arith, differ last j (omega arith) (omega arith) q))))
-        (λ e. cond_both (eqb (g j) n) (g last) (g j) (λ w. g i ≡ w → i ≡ j)
-          (λ f q. absurd (omega (arith, differ i last (omega arith) (omega arith) q)))
-          (λ f q. differ i j (omega arith) (omega arith) q)) in
+    λ i j l m. cond_both (eqb (g i) n) (g last) (g i) (λ v. v ≡ swapped g n last j → i ≡ j)
+    (λ e. cond_both (eqb (g j) n) (g last) (g j) (λ w. g last ≡ w → i ≡ j)
+    (λ f q. differ i j (omega arith) (omega arith) (eqb-true (g i) n e ∙ sym (eqb-true (g j) n f)))
+    (λ f q. absurd (omega (arith, differ last j (omega arith) (omega arith) q))))
+    (λ e. cond_both (eqb (g j) n) (g last) (g j) (λ w. g i ≡ w → i ≡ j)
+    (λ f q. absurd (omega (arith, differ i last (omega arith) (omega arith) q)))
+    (λ f q. differ i j (omega arith) (omega arith) q)) in
     omega (arith, few_below n k (swapped g n last) lower still)
 
 -- places below n from which k and fewer words more than `left` are left, one place for each number
