@@ -43,6 +43,10 @@ fn takes_whole_records(rt: HostRuntime) {
         next_record(b"\x01\0\0\0cde"),
         Some((b"c".as_slice(), b"de".as_slice()))
     );
-    assert_eq!(rt; next_record(b"\0\0\0\x01cde"), None);
+    assert_eq!(rt;
+        next_record(b"\0\0\0\x01cde"),
+        Some((b"".as_slice(), b"cde".as_slice()))
+    );
+    assert_eq!(rt; next_record(b"\x04\0\0\0cde"), None);
     assert_eq!(rt; next_record(b"\0\0\0"), None);
 }
