@@ -25,12 +25,12 @@ fn numbered(heap: Global, number: usize, answer: &[u8]) -> Result<Vec<u8>, Alloc
 }
 
 // Writes what a call answers for each record, under its number, counted from 1; the first bytes that are no record end them, and so does the number 100,000.
-pub fn answer_cases<R: Read + Drop, W: Write, F: Fn(&[u8]) -> Result<Vec<u8>, AllocError> + Drop>(
-    heap: Global,
-    mut input: R,
-    output: &mut W,
-    call: F,
-) -> io::Result<()>
+pub fn answer_cases<
+    R: Read + Drop,
+    W: Write,
+    F: Fn(&[u8]) -> Result<Vec<u8>, AllocError> + Drop,
+    E: From<io::Error> + From<AllocError>,
+>(heap: Global, mut input: R, output: &mut W, call: F) -> Result<(), E>
     requires callable { F.IsAlwaysCallable call }
     ensures writes_answers { OnOk result (IfSome (R.remaining input) (λ bytes. (records : List (List ℕ)) × (out : List ℕ) × Told (ReturnsBytes (FnReturnsAt F.Fn call)) 1 records bytes out × Appends (W.contents output.old) (W.contents output.new) out)) }
 {
