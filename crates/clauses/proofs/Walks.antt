@@ -1,9 +1,9 @@
--- What is left to ask of the clauses from a place on.
+-- What is left to ask of the clauses from a place on, and that it ends.
 use Rattle.std.proofs.Common.{◌≡◌, ◌∙◌, ℕ, zero, suc, ◌+◌, ◌<◌, ◌≤◌, cond, eqb, List, length, ℤ, pos, negsuc, Some, None, Option, ap, sym, refl, subst, arith}
 use Rattle.std.proofs.lemmas.Bool.{cond_both, eqb-true, eqb-false}
 use Rattle.rules.specs.Clauses.{Clause}
 use Rattle.clauses.specs.Walk.{Word}
-use Rattle.clauses.specs.Rows.{flat}
+use Rattle.clauses.specs.Rows.{flat, WalkEnds}
 use Rattle.clauses.proofs.Rows.{flat_onto}
 
 -- the length of a clause, k words on
@@ -16,6 +16,9 @@ pub one_less : (x : ℤ) (cs ds : List Clause) → Word x cs ds → length (flat
 one_less (pos zero) cs ds h = ap (λ c. length (flat c)) h
 one_less (pos (suc n)) cs ds h = ap (λ c. length (flat c)) h.0 ∙ ap length (flat_onto (pos (suc n)) ds h.1)
 one_less (negsuc n) cs ds h = ap (λ c. length (flat c)) h.0 ∙ ap length (flat_onto (negsuc n) ds h.1)
+
+pub walk_ends_lem : WalkEnds
+walk_ends_lem cs rest word next h = omega (arith, one_less word cs (rest next) h)
 
 not_last : (n v : ℕ) → v < suc n → (v ≡ n → ⊥) → v < n
 not_last zero zero l ne = absurd (ne refl)
