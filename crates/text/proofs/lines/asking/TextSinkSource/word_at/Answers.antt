@@ -14,7 +14,7 @@ returns-in_err-word c =
     let s = c.args.self.now in
     record {
       reads_word =
-        rw c.from_residual.ensures (ap parse (ap numbers (sym (between_is s.bytes.now c.args.place s.used)) ∙ c.in_err-word.ensures.reads_number));
+          rw c.from_residual.ensures (ap parse (ap numbers (sym (between_is s.bytes.now c.args.place s.used)) ∙ c.in_err-word.ensures.reads_number));
     }
 
 pub returns : goal.returns
@@ -30,6 +30,6 @@ returns c =
     let is : numbers (drop c.args.place bs) ≡ x ∷ ys = ap numbers (sym all) ∙ c.in_ok-word.ensures.reads_number.0 ∙ ap (λ ws. x ∷ ws) more in
     record {
       reads_word =
-        subst (λ (z : ℤ). Word z (parse (numbers (drop c.args.place bs))) (parse ys)) (sym (to_z-of_z w32 x f))
-        (word_read (numbers (drop c.args.place bs)) x ys (shut bs s.rendered s.granted c.args.place) is);
+          subst (λ (z : ℤ). Word z (parse (numbers (drop c.args.place bs))) (parse ys)) (sym (to_z-of_z w32 x f))
+          (word_read (numbers (drop c.args.place bs)) x ys (shut bs s.rendered s.granted c.args.place) is);
     }
