@@ -40,6 +40,7 @@ impl<'a> Slot<'a> {
     }
 
     // By fact: what the step needs, sets or clears. Its set is read once.
+    #[inline(always)]
     fn effects_of<S, E, F: Fn(&mut S, &[i32]) -> Result<(), E>>(
         &self,
         part: Part,
@@ -58,7 +59,7 @@ impl<'a> Slot<'a> {
         Ok(())
     }
 
-    // By step, then fact: what the steps need, set or clear. Inlined, it is compiled for each kind apart, and asks at no fact which kind it is.
+    // By step, then fact: what the steps need, set or clear. Inlined, the two are compiled for each kind apart, and ask at no fact which kind it is.
     #[inline(always)]
     fn each_effect<S, E, F: Fn(&mut S, &[i32]) -> Result<(), E>>(
         &self,
