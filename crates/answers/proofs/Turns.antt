@@ -79,6 +79,9 @@ module _ (n : ℕ) (m left : List ℕ) (long : length m ≡ n) where
     said_last : said ≡ last_word n mark m left
     said_last = let w = one_word left one in ap (λ x. take_words n mark m x (later_words left)) w.0 ∙ ap (take_words n mark m left) w.1
 
+    pub closed : left ≡ 48 ∷ [] → said ≡ Some (Past Satisfiable, m)
+    closed e = said_last ∙ ap (last_word n mark m) e
+
     module _ (more : left ≡ 48 ∷ [] → ⊥) where
       said_other : said ≡ still_among (take_word n mark m left)
       said_other = said_last ∙ cond-false (bytes_eq left (48 ∷ [])) _ _ (differs left (48 ∷ []) more)

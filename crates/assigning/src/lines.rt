@@ -15,10 +15,12 @@ fn named(slots: usize, steps: usize, l: Line) -> bool
     (1..=slots).contains(&usize::from(l.slot)) && (1..=steps).contains(&usize::from(l.step))
 }
 
+// Whether each line is named and earlier than the next one: one pass, up to the first line that is not.
 fn is_sheet(table: &StepTable, horizon: usize, lines: &[Line]) -> bool
     ensures tests_rows { result ≡ rows horizon table.now.steps lines.now }
 {
-    lines.is_sorted_by(|l, m| l < m) && lines.iter().all(|l| named(horizon, table.steps, *l))
+    lines.is_sorted_by(|l, m| named(horizon, table.steps, *l) && l < m)
+        && lines.last().is_none_or(|l| named(horizon, table.steps, *l))
 }
 
 // The lines of a sheet of the table's problem, of at most 32 slots. That they are one stands as a test: a ghost field's type is a fact with one proof, and a Sheet has many.

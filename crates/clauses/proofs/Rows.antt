@@ -1,5 +1,5 @@
 -- What `parse` gives of rows that are joined or walked.
-use Rattle.std.proofs.Common.{◌≡◌, ℕ, zero, suc, ◌+◌, ◌-◌, ◌<◌, ◌≤◌, Bool, true, false, ltb, List, [], ◌∷◌, ◌++◌, length, get_or, take, drop, set, ℤ, pos, negsuc, sym, refl, ap, ◌∙◌, subst, arith}
+use Rattle.std.proofs.Common.{◌≡◌, ℕ, zero, suc, ◌+◌, ◌-◌, ◌<◌, ◌≤◌, Bool, true, false, ltb, List, [], ◌∷◌, ◌++◌, length, get_or, take, drop, set, ℤ, pos, negsuc, Some, sym, refl, ap, ◌∙◌, subst, arith}
 use Rattle.std.proofs.lemmas.Bool.{false≢true, true≢false, or_parts, cond-false}
 use Rattle.std.proofs.lemmas.List.{length-take-le, take_more_set, append_assoc, length-append, length-set, drop-set-lt, drop_more}
 use Rattle.std.proofs.lemmas.Grind.{common_steps}
@@ -7,6 +7,7 @@ use Rattle.std.proofs.lemmas.Slice.{take-put_mid, drop-put_mid}
 use borrow.Rule.Slice.PartMut.{put_mid}
 use Rattle.rules.specs.Lists.{any}
 use Rattle.rules.specs.Clauses.{Clause, bad_literal, bad_clause, total}
+use Rattle.clauses.specs.Asked.{at0}
 use Rattle.clauses.specs.Walk.{onto, some_clause, Word}
 use Rattle.clauses.specs.Rows.{flat, parse, is_zero, ends, word_cost}
 
@@ -48,7 +49,7 @@ pub ends_app : (b : Bool) (xs ys : List ℤ) → ends b (xs ++ ys) ≡ ends (end
 ends_app b [] ys = refl
 ends_app b (x ∷ xs) ys = ends_app (is_zero x) xs ys
 
-flat_onto : (l : ℤ) (cs : List Clause) → some_clause cs ≡ true → flat (onto l cs) ≡ l ∷ flat cs
+pub flat_onto : (l : ℤ) (cs : List Clause) → some_clause cs ≡ true → flat (onto l cs) ≡ l ∷ flat cs
 flat_onto l [] h = absurd (false≢true h)
 flat_onto l (c ∷ cs) h = refl
 
@@ -115,6 +116,23 @@ put_clause used ws c ys e room closed good =
           ∙ ap (λ cs. parse (take used ws) ++ cs) (parse_clause 4096 c [] (or_parts (ltb 130 (length c)) (any (bad_literal 4096) c) good).1);
       rest = drop-set-lt (end + 1) vs end (pos 0) (omega arith) ∙ drop-put_mid used (end - used) ws ys (end + 1) (omega arith) (omega arith) k;
     }
+
+-- the first clause of a row
+onto_head : (l : ℤ) (cs : List Clause) (c : List ℤ) → at0 (onto l cs) 0 ≡ Some c → (d : List ℤ) × (at0 cs 0 ≡ Some d) × (c ≡ l ∷ d)
+onto_head l [] c e = let z : ◌≡◌ {A = ℕ} 0 1 = cc in absurd (omega arith)
+onto_head l (d ∷ cs) c e = (d, refl, cc)
+
+pub head_is : (xs c : List ℤ) → at0 (parse xs) 0 ≡ Some c → (c ≡ take (length c) xs) × (length c < length xs)
+head_is [] c e = let z : ◌≡◌ {A = ℕ} 0 1 = cc in absurd (omega arith)
+head_is (pos zero ∷ xs) c e = let n : [] ≡ c = cc in subst (λ (d : List ℤ). (d ≡ take (length d) (pos zero ∷ xs)) × (length d < length (pos zero ∷ xs))) n (refl, omega arith)
+head_is (pos (suc n) ∷ xs) c e =
+    let o = onto_head (pos (suc n)) (parse xs) c e in
+    let ih = head_is xs o.0 o.1 in
+    subst (λ (d : List ℤ). (d ≡ take (length d) (pos (suc n) ∷ xs)) × (length d < length (pos (suc n) ∷ xs))) (sym o.2) (ap (λ d. pos (suc n) ∷ d) ih.0, omega (arith, ih.1))
+head_is (negsuc n ∷ xs) c e =
+    let o = onto_head (negsuc n) (parse xs) c e in
+    let ih = head_is xs o.0 o.1 in
+    subst (λ (d : List ℤ). (d ≡ take (length d) (negsuc n ∷ xs)) × (length d < length (negsuc n ∷ xs))) (sym o.2) (ap (λ d. negsuc n ∷ d) ih.0, omega (arith, ih.1))
 
 -- a word in a closed row
 closed_at : (b : Bool) (ws : List ℤ) (i : ℕ) (x : ℤ) (ys : List ℤ) → ends b ws ≡ true → drop i ws ≡ x ∷ ys → ends (is_zero x) ys ≡ true

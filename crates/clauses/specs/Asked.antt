@@ -30,6 +30,14 @@ length_at cs n = length_of (at1 cs n)
 abbrev pub literal_at : List Clause → ℕ → ℕ → Option ℤ
 literal_at cs n k = literal_of (at1 cs n) k
 
+-- the length of the first clause
+abbrev pub first_length : List Clause → Option ℕ
+first_length cs = length_of (at0 cs 0)
+
+-- literal k of the first clause, counted from 0
+abbrev pub first_literal : List Clause → ℕ → Option ℤ
+first_literal cs k = literal_of (at0 cs 0) (suc k)
+
 -- each literal's size is from 1 to the widest variable
 abbrev pub sized : ℕ → List Clause → Bool
 sized widest [] = true

@@ -1,9 +1,9 @@
 -- Clauses as a row of words, a 0 after each.
-use Rattle.std.specs.Prelude.{ℕ, zero, suc, ◌+◌, ◌*◌, ◌≤◌, Bool, true, false, cond, List, [], ◌∷◌, ◌++◌, length, ℤ, pos, negsuc}
+use Rattle.std.specs.Prelude.{ℕ, zero, suc, ◌+◌, ◌*◌, ◌<◌, ◌≤◌, Bool, true, false, cond, List, [], ◌∷◌, ◌++◌, length, ℤ, pos, negsuc, Some}
 use Rattle.std.proofs.Common.{arith}
 use Rattle.std.proofs.lemmas.Bool.{cond_both}
 use Rattle.rules.specs.Clauses.{Clause, bad_clause}
-use Rattle.clauses.specs.Walk.{onto}
+use Rattle.clauses.specs.Walk.{onto, Reads}
 
 -- the words of the clauses
 abbrev pub flat : List Clause → List ℤ
@@ -33,3 +33,7 @@ word_cost c = cond (bad_clause 4096 c) 0 (length c + 1)
 
 pub word_cheap : (c : Clause) → word_cost c ≤ 8 * length c + 2
 word_cheap c = cond_both (bad_clause 4096 c) 0 (length c + 1) (λ n. n ≤ 8 * length c + 2) (λ e. omega arith) (λ e. omega arith)
+
+-- a walk ends: after each word that is read fewer words are left
+abbrev pub WalkEnds : Type 0
+WalkEnds = (cs : List Clause) (rest : ℕ → List Clause) (word : ℤ) (next : ℕ) → Reads cs rest (Some (word, next)) → length (flat (rest next)) < length (flat cs)

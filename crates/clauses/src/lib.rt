@@ -2,11 +2,13 @@
 #![tactic(auto)]
 
 mod check;
+mod laws;
 mod sink;
 mod source;
 mod words;
 
 pub use check::bad_clause;
+pub use laws::walk_ends;
 pub use sink::Sink;
 pub use source::Source;
 pub use words::WordSink;

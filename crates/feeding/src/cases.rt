@@ -1,4 +1,4 @@
-// Many inputs in one: each is a 4-byte length, low byte first, and then its bytes.
+// Many inputs in one: each is a 4-byte length, low byte first, and then its bytes. The length's fourth byte is passed over, and 99,999 inputs are the most.
 ghost use Rattle.std.specs.Prelude.{◌≡◌, ◌++◌, MatchOption, IfOk, OnOk, IfSome, Ok, List, ℕ};
 ghost use Rattle.std.specs.Fn.{FnReturnsAt};
 ghost use Rattle.std.specs.Io.KnownBytes.{Appends};
@@ -12,7 +12,7 @@ pub fn next_record(bytes: &[u8]) -> Option<(&[u8], &[u8])>
     ensures takes_record { MatchOption result (NoRecord bytes.now) (λ p. IsFirst bytes.now p.0.now p.1.now) }
 {
     let (length, rest) = bytes.split_first_chunk::<4>()?;
-    rest.split_at_checked(u32::from_le_bytes(*length) as usize)
+    rest.split_at_checked((u32::from_le_bytes(*length) % (1 << 24)) as usize)
 }
 
 // An answer under its number.
@@ -24,24 +24,25 @@ fn numbered(heap: Global, number: usize, answer: &[u8]) -> Result<Vec<u8>, Alloc
     Ok(out)
 }
 
-// Writes what a call answers for each record, under its number, counted from 1; the first bytes that are no record end them. Where a record ends is known only once it is cut, so that the loop goes by what is left.
-pub fn answer_cases<R: Read + Drop, W: Write, F: Fn(&[u8]) -> Result<Vec<u8>, AllocError> + Drop>(
-    heap: Global,
-    mut input: R,
-    output: &mut W,
-    call: F,
-) -> io::Result<()>
+// Writes what a call answers for each record, under its number, counted from 1; the first bytes that are no record end them, and so does the number 100,000.
+pub fn answer_cases<
+    R: Read + Drop,
+    W: Write,
+    F: Fn(&[u8]) -> Result<Vec<u8>, AllocError> + Drop,
+    E: From<io::Error> + From<AllocError>,
+>(heap: Global, mut input: R, output: &mut W, call: F) -> Result<(), E>
     requires callable { F.IsAlwaysCallable call }
     ensures writes_answers { OnOk result (IfSome (R.remaining input) (λ bytes. (records : List (List ℕ)) × (out : List ℕ) × Told (ReturnsBytes (FnReturnsAt F.Fn call)) 1 records bytes out × Appends (W.contents output.old) (W.contents output.new) out)) }
 {
     let mut bytes = Vec::new(heap);
     input.read_to_end(&mut bytes)?;
     let mut left = bytes.as_slice();
-    let mut number = 1;
-    while let Some((record, rest)) = next_record(left) {
+    for number in 1..100_000 {
+        let Some((record, rest)) = next_record(left) else {
+            break;
+        };
         output.write_all(&numbered(heap, number, &call(record)?)?)?;
         left = rest;
-        number += 1;
     }
     Ok(())
 }

@@ -1,7 +1,27 @@
-// That the calls that can run out of memory succeed.
+// That the calls that can run out of memory succeed, and which error is told where a call doesn't.
 use crate::{answer_cases, answer_input, next_record};
 use std::alloc::{AllocError, Global};
+use std::io;
 use std::test::Fail;
+
+// What failed.
+#[derive(Clone, Copy, Debug, Drop, PartialEq, Eq)]
+enum Cause {
+    Memory,
+    Io,
+}
+
+impl From<AllocError> for Cause {
+    fn from(_: AllocError) -> Cause {
+        Cause::Memory
+    }
+}
+
+impl From<io::Error> for Cause {
+    fn from(_: io::Error) -> Cause {
+        Cause::Io
+    }
+}
 
 // The bytes twice.
 fn doubled(heap: Global, bytes: &[u8]) -> Result<Vec<u8>, AllocError> {
@@ -15,7 +35,7 @@ fn doubled(heap: Global, bytes: &[u8]) -> Result<Vec<u8>, AllocError> {
 fn answers_one_input(rt: HostRuntime) -> Result<(), Fail> {
     let heap = rt.alloc();
     let mut out = Vec::new(heap);
-    answer_input(heap, b"abc".as_slice(), &mut out, |input| {
+    answer_input::<_, _, _, io::Error>(heap, b"abc".as_slice(), &mut out, |input| {
         doubled(heap, input)
     })?;
     assert_eq!(rt; out.as_slice(), b"abcabc".as_slice());
@@ -27,7 +47,7 @@ fn answers_numbered_cases(rt: HostRuntime) -> Result<(), Fail> {
     let heap = rt.alloc();
     let mut out = Vec::new(heap);
     let cases = b"\x02\0\0\0ab\0\0\0\0\x01\0\0\0c\x05\0\0\0left";
-    answer_cases(heap, cases.as_slice(), &mut out, |input| {
+    answer_cases::<_, _, _, io::Error>(heap, cases.as_slice(), &mut out, |input| {
         doubled(heap, input)
     })?;
     assert_eq!(rt;
@@ -43,6 +63,31 @@ fn takes_whole_records(rt: HostRuntime) {
         next_record(b"\x01\0\0\0cde"),
         Some((b"c".as_slice(), b"de".as_slice()))
     );
-    assert_eq!(rt; next_record(b"\0\0\0\x01cde"), None);
+    assert_eq!(rt;
+        next_record(b"\0\0\0\x01cde"),
+        Some((b"".as_slice(), b"cde".as_slice()))
+    );
+    assert_eq!(rt; next_record(b"\x04\0\0\0cde"), None);
     assert_eq!(rt; next_record(b"\0\0\0"), None);
+}
+
+#[test]
+fn tells_that_a_call_has_no_memory(rt: HostRuntime) {
+    let heap = rt.alloc();
+    let mut out = Vec::new(heap);
+    let whole: Result<(), Cause> = answer_input(
+        heap,
+        b"abc".as_slice(),
+        &mut out,
+        |_| Err(AllocError),
+    );
+    assert_eq!(rt; whole, Err(Cause::Memory));
+    let cases: Result<(), Cause> = answer_cases(
+        heap,
+        b"\0\0\0\0".as_slice(),
+        &mut out,
+        |_| Err(AllocError),
+    );
+    assert_eq!(rt; cases, Err(Cause::Memory));
+    assert_eq!(rt; out.as_slice(), b"".as_slice());
 }

@@ -11,17 +11,18 @@ use std::io::{self, Read, Write};
 const MOST: u64 = 65537;
 
 // Writes what a call answers for the input.
-pub fn answer_input<R: Read + Drop, W: Write, F: FnOnce(&[u8]) -> Result<Vec<u8>, AllocError>>(
-    heap: Global,
-    input: R,
-    output: &mut W,
-    call: F,
-) -> io::Result<()>
+pub fn answer_input<
+    R: Read + Drop,
+    W: Write,
+    F: FnOnce(&[u8]) -> Result<Vec<u8>, AllocError>,
+    E: From<io::Error> + From<AllocError>,
+>(heap: Global, input: R, output: &mut W, call: F) -> Result<(), E>
     requires callable { F.IsAlwaysCallable call }
     ensures writes_answer { OnOk result (IfSome (R.remaining input) (λ bytes. (out : List ℕ) × ReturnsBytes (FnOnceReturnsAt F.FnOnce call) (take 65537 bytes) out × Appends (W.contents output.old) (W.contents output.new) out)) }
 {
     let mut bytes = Vec::new(heap);
     input.take(MOST).read_to_end(&mut bytes)?;
     let answer = call(&bytes)?;
-    output.write_all(&answer)
+    output.write_all(&answer)?;
+    Ok(())
 }

@@ -1,5 +1,5 @@
 -- Clauses as the enumeration makes them, and as the definitions state them.
-use Rattle.std.proofs.Common.{◌≡◌, ℕ, ◌+◌, ◌-◌, ◌<◌, ◌≤◌, Bool, true, false, cond, List, [], ◌∷◌, ◌++◌, map, length, ℤ, filter, sym, ap, ◌∙◌, append_assoc, arith, length-append, w32, SFits, to_z, of_z}
+use Rattle.std.proofs.Common.{◌≡◌, ℕ, ◌+◌, ◌-◌, ◌<◌, ◌≤◌, Bool, true, false, cond, List, [], ◌∷◌, ◌++◌, map, length, ℤ, filter, sym, ap, ◌∙◌, append_assoc, append-nil, arith, length-append, w32, SFits, to_z, of_z}
 use Rattle.std.proofs.lemmas.Int.{to_z-of_z}
 use Rattle.std.specs.List.{range_with_len}
 use Rattle.rules.specs.Lists.{has}
@@ -7,7 +7,7 @@ use Rattle.rules.specs.Steps.{Rule, Step}
 use Rattle.rules.specs.Problems.{Problem, step}
 use Rattle.rules.specs.Clauses.{aye}
 use Rattle.rules.specs.Formula.{step_var, parted_cell}
-use Rattle.rules.proofs.Counting.{counting_next}
+use Rattle.rules.proofs.Counting.{counting_next, counting_over}
 use Rattle.problem.specs.declared.part.Part.{Part}
 use Rattle.problem.specs.Tables.{part_of}
 use Rattle.formula.specs.Effects.{doers}
@@ -44,3 +44,6 @@ module _ (p : Problem) (part : Part) (u f : ℕ) where
             ∙ ap (λ z. xs ++ (z ∷ rest)) k
             ∙ ap (λ ls. xs ++ ls) (sym (next a true l e)) ∙ h.1,
       )
+
+  pub explains_end : (all xs : List ℤ) (a : ℕ) → Explains all xs a → p.steps + 1 ≤ a → xs ≡ all
+  explains_end all xs a h l = sym (append-nil xs) ∙ ap (λ js. xs ++ doers p part u f js) (sym (counting_over a (p.steps + 1) l)) ∙ h.1

@@ -40,6 +40,7 @@ impl<'a> Slot<'a> {
     }
 
     // By fact: what the step needs, sets or clears. Its set is read once.
+    #[inline(always)]
     fn effects_of<S, E, F: Fn(&mut S, &[i32]) -> Result<(), E>>(
         &self,
         part: Part,
@@ -58,7 +59,8 @@ impl<'a> Slot<'a> {
         Ok(())
     }
 
-    // By step, then fact: what the steps need, set or clear.
+    // By step, then fact: what the steps need, set or clear. Inlined, the two are compiled for each kind apart, and ask at no fact which kind it is.
+    #[inline(always)]
     fn each_effect<S, E, F: Fn(&mut S, &[i32]) -> Result<(), E>>(
         &self,
         part: Part,
@@ -74,13 +76,21 @@ impl<'a> Slot<'a> {
         Ok(())
     }
 
-    // The two literals of a fact that changed, then each step that can have changed it.
-    fn frame_clause(&self, part: Part, f: usize, changed: [i32; 2]) -> ArrayVec<i32, 130>
+    // The two literals of a fact that changed, then each step that can have changed it. The clause is shown where it is made: one that is handed back is copied.
+    fn frame_clause<S, E, F: Fn(&mut S, &[i32]) -> Result<(), E>>(
+        &self,
+        part: Part,
+        f: usize,
+        changed: [i32; 2],
+        visit: &F,
+        state: &mut S,
+    ) -> Result<(), E>
+        requires callable { F.IsAlwaysCallable visit.now }
         requires few { f ≤ 64 }
-        ensures explains_change { result.items ≡ changed ++ doers (means self.now.table.now) part self.now.before f (steps_of (means self.now.table.now)) }
+        ensures explains_change { Shown F.Fn visit.now state.old (changed ++ doers (means self.now.table.now) part self.now.before f (steps_of (means self.now.table.now))) result state.new }
     {
         let [first, second] = changed;
-        let mut clause = ArrayVec::new();
+        let mut clause: ArrayVec<i32, 130> = ArrayVec::new();
         clause.push(first);
         clause.push(second);
         for a in 1..self.table.steps + 1 {
@@ -88,7 +98,7 @@ impl<'a> Slot<'a> {
                 clause.push(aye(self.step(a)));
             }
         }
-        clause
+        show(&clause, visit, state)
     }
 
     // A fact that appears was set, and one that is lost was cleared.
@@ -104,16 +114,8 @@ impl<'a> Slot<'a> {
     {
         let before = self.fact_before(f);
         let after = self.fact_after(f);
-        show(
-            &self.frame_clause(Part::Sets, f, [aye(before), nay(after)]),
-            visit,
-            state,
-        )?;
-        show(
-            &self.frame_clause(Part::Clears, f, [nay(before), aye(after)]),
-            visit,
-            state,
-        )
+        self.frame_clause(Part::Sets, f, [aye(before), nay(after)], visit, state)?;
+        self.frame_clause(Part::Clears, f, [nay(before), aye(after)], visit, state)
     }
 
     // By fact: why it appeared, and why it was lost.

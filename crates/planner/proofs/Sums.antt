@@ -1,5 +1,5 @@
 -- What the formula costs, and that the sum fits.
-use Rattle.std.proofs.Common.{◌≡◌, ℕ, ◌+◌, ◌*◌, ◌^◌, ◌<◌, ◌≤◌, List, [], ◌∷◌, length, ℤ, Result, subst, inl, inr, mul-le-mul, arith}
+use Rattle.std.proofs.Common.{◌≡◌, ℕ, ◌+◌, ◌*◌, ◌^◌, ◌<◌, ◌≤◌, List, [], ◌∷◌, length, ℤ, Result, subst, inl, inr, mul-le-mul_left, arith}
 use Rattle.std.specs.declared.convert.Infallible.{Infallible}
 use Rattle.rules.specs.Steps.{Rule}
 use Rattle.rules.specs.Problems.{Problem}
@@ -30,18 +30,18 @@ pub total_cheap : (cost : Clause → ℕ) → ((c : Clause) → cost c ≤ 8 * l
 total_cheap cost cheap [] = omega arith
 total_cheap cost cheap (c ∷ cs) = omega (arith, cheap c, total_cheap cost cheap cs)
 
-module _ (p : Problem) (facts : p.facts ≤ 64) (steps : p.steps ≤ 128) (rule : Rule) (t : ℕ) (h : t ≤ 65535) where
-  pub few_literals : literals (formula p rule t) ≤ 6459129856
+module _ (p : Problem) (facts : p.facts ≤ 64) (steps : p.steps ≤ 128) (rule : Rule) (t : ℕ) where
+  pub few_literals : literals (formula p rule t) ≤ t * 98560 + 256
   few_literals =
       let s = few_slot length p facts steps rule (λ c l. l) (λ c l. l) 0 in
-      let m : t * literals (slot_clauses p rule 0) ≤ 6459129600 = mul-le-mul h s in
+      let m : t * literals (slot_clauses p rule 0) ≤ t * 98560 = mul-le-mul_left t s in
       omega (arith, formula_total (λ n. n) p rule t, m, few_starts length p facts steps rule (λ c l. l) (λ c l. l), few_goals length p facts steps rule (λ c l. l) (λ c l. l) t)
 
-  pub few_clauses : length (formula p rule t) ≤ 6459129856
+  pub few_clauses : length (formula p rule t) ≤ t * 98560 + 256
   few_clauses =
       let s = few_slot (λ _. 1) p facts steps rule (λ c l. omega arith) (λ c l. omega arith) 0 in
-      let m : t * total (λ _. 1) (slot_clauses p rule 0) ≤ 6459129600 = mul-le-mul h s in
+      let m : t * total (λ _. 1) (slot_clauses p rule 0) ≤ t * 98560 = mul-le-mul_left t s in
       omega (arith, length_total (formula p rule t), formula_total (λ _. 1) p rule t, m, few_starts (λ _. 1) p facts steps rule (λ c l. omega arith) (λ c l. omega arith), few_goals (λ _. 1) p facts steps rule (λ c l. omega arith) (λ c l. omega arith) t)
 
-  pub cost_fits : (cost : Clause → ℕ) → ((c : Clause) → cost c ≤ 8 * length c + 2) → total cost (formula p rule t) < 2 ^ 64
-  cost_fits cost cheap = omega (arith, total_cheap cost cheap (formula p rule t), few_literals, few_clauses)
+  pub cost_fits : t ≤ 65535 → (cost : Clause → ℕ) → ((c : Clause) → cost c ≤ 8 * length c + 2) → total cost (formula p rule t) < 2 ^ 64
+  cost_fits h cost cheap = omega (arith, total_cheap cost cheap (formula p rule t), few_literals, few_clauses)

@@ -57,7 +57,7 @@ fn add_formula<S: Sink, R: SlotRule>(formula: &Formula<R>, sink: &mut S) -> Resu
     formula.each_clause(&|sink: &mut S, clause: &[i32]| sink.add(clause), sink)
 }
 
-// The whole formula into an empty sink, or nothing: refused by 7, 10, 11 and 9, in that order.
+// The whole formula into an empty sink, or nothing: refused by 7, 10, 11 and 9, in that order. Refused by 7 or 10, the problem's pairs are not read.
 pub fn encode<S: Sink, R: SlotRule>(
     problem: &Problem,
     horizon: usize,
@@ -70,10 +70,13 @@ pub fn encode<S: Sink, R: SlotRule>(
     ensures keeps_the_loan { Kept S.Source.widest S.Sink.capacity S.Sink.lent sink.old sink.new }
     ensures means_sheets { MeansSheets (problem_of problem.now.bytes.now) (R.SlotRule.parts rule.now) horizon }
 {
-    let formula = Formula::of(problem, horizon, rule)?;
+    if horizon > 32 {
+        return Err(Refusal::BadRequest);
+    }
     if sink.clause_count() != 0 {
         return Err(Refusal::SinkNotEmpty);
     }
+    let formula = Formula::of(problem, horizon, rule)?;
     let (variables, clauses, literals) = formula.sizes();
     if variables > sink.widest_variable() {
         return Err(Refusal::TooManyVariables);

@@ -1,6 +1,6 @@
 -- The sets by code, one pair more at a time, and what the whole table lists.
 use Rattle.std.proofs.Common.{◌≡◌, ℕ, zero, suc, ◌+◌, ◌*◌, ◌<◌, ◌≤◌, Bool, false, ◌&&◌, ◌||◌, eqb, leb, List, [], get_or, set, replicate, sym, refl, ap, ◌∙◌, ⊎_elim, add-one, arith}
-use Rattle.std.proofs.lemmas.List.{get_or-replicate, length-replicate, length-set, get_or-set_same, get_or-set_other}
+use Rattle.std.proofs.lemmas.List.{get_or-replicate, length-replicate, length-set, get_or-set_same, get_or-set_other, get_or_default}
 use Rattle.std.proofs.lemmas.Bool.{cases_eq}
 use Rattle.std.proofs.lemmas.Bool.Decides.{nat_tests}
 use Rattle.std.specs.List.{range_with_len, list_any}
@@ -8,12 +8,15 @@ use Rattle.rules.specs.Lists.{any, has, shares}
 use Rattle.steps.specs.declared.fact_set.FactSet.{FactSet}
 use Rattle.steps.specs.Sets.{bit, facts_in}
 use Rattle.steps.proofs.Kept.{has_bit, kept_same, kept_shorter}
-use Rattle.problem.specs.Bytes.{facts, pairs, code, fact, Sized}
+use Rattle.problem.specs.Bytes.{facts, steps, pairs, code, fact, Sized}
 use Rattle.problem.specs.Listed.{among, has_pair, listed}
 use Rattle.problem.specs.Verdict.{scan, clashes}
 use Rattle.problem.specs.Collected.{empty_set, Collects}
 use Rattle.problem.proofs.Lawful.{scan_known}
 use Rattle.problem.proofs.Scans.{none_among}
+
+pub code_in : (s : List ℕ) (n k : ℕ) → scan s n ≡ 0 → k < n → steps s ≤ 128 → code s k < 516
+code_in s n k h l few = let w = scan_known s n k h l in omega (arith, w.0)
 
 -- a pair that passed has a code and a fact that a table has room for
 pub known_pair : (s : List ℕ) (f a p i : ℕ) → Sized s f a p → scan s p ≡ 0 → i < p → (code s i < 516) × (1 ≤ fact s i) × (fact s i ≤ 64)
@@ -28,10 +31,11 @@ collect_none s x e = record {
   lists = λ c f l. ap (λ (y : FactSet). has f (facts_in y)) (get_or-replicate 516 c x empty_set l) ∙ ap (has f) e;
 }
 
-module _ (s : List ℕ) (sets : List FactSet) (i c f : ℕ) (x : FactSet) (h : Collects s sets i) (p : c ≡ code s i) (q : f ≡ fact s i) (l : c < 516) (lo : 1 ≤ f) (hi : f ≤ 64) (adds : (g : ℕ) → has g (facts_in x) ≡ ((eqb g f && (leb 1 f && leb f 64)) || has g (facts_in (get_or sets c empty_set)))) where
+module _ (s : List ℕ) (sets : List FactSet) (i c f : ℕ) (x d : FactSet) (h : Collects s sets i) (p : c ≡ code s i) (q : f ≡ fact s i) (l : c < 516) (lo : 1 ≤ f) (hi : f ≤ 64) (adds : (g : ℕ) → has g (facts_in x) ≡ ((eqb g f && (leb 1 f && leb f 64)) || has g (facts_in (get_or sets c d)))) where
   here : (g : ℕ) → has g (facts_in x) ≡ ((eqb (code s i) c && eqb (fact s i) g) || among s c g i)
   here g =
-      let added = adds g in
+      let same : get_or sets c d ≡ get_or sets c empty_set = get_or_default sets c d empty_set (omega (arith, h.long)) in
+      let added = adds g ∙ ap (λ (y : FactSet). (eqb g f && (leb 1 f && leb f 64)) || has g (facts_in y)) same in
       let before = h.lists c g l in
       grind (arith, nat_tests)
 
@@ -65,12 +69,12 @@ abbrev pub meeting : List FactSet → ℕ → Bool
 meeting sets a = shares (facts_in (get_or sets (4 * a + 1) empty_set)) (facts_in (get_or sets (4 * a + 2) empty_set))
 
 module _ (s : List ℕ) (sets : List FactSet) (n : ℕ) (e : n ≡ pairs s) (few : facts s ≤ 64) (h : scan s n ≡ 0) (t : Collects s sets n) where
-  pub under_listed : (c : ℕ) → c < 516 → facts_in (get_or sets c empty_set) ≡ listed s c
-  under_listed c l = set_is_listed s (get_or sets c empty_set) c few (ap (scan s) (sym e) ∙ h) (λ f. t.lists c f l ∙ ap (among s c f) e)
+  pub under_listed : (c : ℕ) (d : FactSet) → c < 516 → facts_in (get_or sets c d) ≡ listed s c
+  under_listed c d l = set_is_listed s (get_or sets c d) c few (ap (scan s) (sym e) ∙ h) (λ f. ap (λ (y : FactSet). has f (facts_in y)) (get_or_default sets c d empty_set (omega (arith, t.long))) ∙ t.lists c f l ∙ ap (among s c f) e)
 
-  step_clashes : (a : ℕ) → a ≤ 128 → meeting sets a ≡ clashes s a
-  step_clashes a l = λ i. shares (under_listed (4 * a + 1) (omega arith) i) (under_listed (4 * a + 2) (omega arith) i)
+  pub meets_clashes : (a : ℕ) (x y : FactSet) → a ≤ 128 → shares (facts_in (get_or sets (4 * a + 1) x)) (facts_in (get_or sets (4 * a + 2) y)) ≡ clashes s a
+  meets_clashes a x y l = λ i. shares (under_listed (4 * a + 1) x (omega arith) i) (under_listed (4 * a + 2) y (omega arith) i)
 
   pub meeting_clashes : (a k : ℕ) → a + k ≤ 129 → list_any (meeting sets) (range_with_len a k) ≡ any (clashes s) (range_with_len a k)
   meeting_clashes a zero l = refl
-  meeting_clashes a (suc k) l = λ i. step_clashes a (omega arith) i || meeting_clashes (a + 1) k (omega arith) i
+  meeting_clashes a (suc k) l = λ i. meets_clashes a empty_set empty_set (omega arith) i || meeting_clashes (a + 1) k (omega arith) i

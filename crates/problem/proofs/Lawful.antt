@@ -10,7 +10,7 @@ use Rattle.rules.proofs.Members.{in_counting, kept_in}
 use Rattle.problem.specs.Bytes.{facts, steps, pairs, code, fact}
 use Rattle.problem.specs.Listed.{has_pair, listed, problem_of}
 use Rattle.problem.specs.Verdict.{headed, known, below, rises, pair_verdict, scan, clashes, verdict}
-use Rattle.problem.proofs.Scans.{none_among}
+use Rattle.problem.proofs.Scans.{none_among, NotAt}
 
 -- each test of a verdict of 0
 pub record Passed (s : List ℕ) : Type 0 where
@@ -60,6 +60,10 @@ lt_trans a b c d e f (inl p) (inr q) = inl (omega arith)
 lt_trans a b c d e f (inr p) (inl q) = inl (omega arith)
 lt_trans a b c d e f (inr p) (inr q) = inr (omega arith, omega arith)
 
+pub lt_apart : (a b c d : ℕ) → Lt a b c d → a ≡ c → b ≡ d → ⊥
+lt_apart a b c d (inl p) e g = omega arith
+lt_apart a b c d (inr p) e g = omega arith
+
 pub lt_below : (c f d g : ℕ) → below c f d g ≡ true → Lt c f d g
 lt_below c f d g b = grind (arith, nat_tests)
 
@@ -83,10 +87,31 @@ rising s n j (suc k) h l lt =
     (λ m. let e : j ≡ k = omega arith in subst (λ i. Lt (code s i) (fact s i) (code s (suc k)) (fact s (suc k))) (sym e) step)
     (cases_lt j k)
 
--- no pair is of a step that there is not, and none has code 2
+module _ (s : List ℕ) (n c f mid : ℕ) (h : scan s n ≡ 0) (inside : mid < n) where
+  pub out_below : Lt (code s mid) (fact s mid) c f → (k : ℕ) → k < mid + 1 → NotAt s c f k
+  out_below l k lt e g =
+      ⊎_elim
+      (λ m. lt_apart _ _ c f (lt_trans _ _ _ _ _ _ (rising s n k mid h m inside) l) e g)
+      (λ m. let z : k ≡ mid = omega arith in lt_apart _ _ c f l (ap (code s) (sym z) ∙ e) (ap (fact s) (sym z) ∙ g))
+      (cases_lt k mid)
+
+  pub out_above : Lt c f (code s mid) (fact s mid) → (k : ℕ) → mid ≤ k → k < n → NotAt s c f k
+  out_above l k ge lt e g =
+      ⊎_elim
+      (λ m. lt_apart c f _ _ (lt_trans _ _ _ _ _ _ l (rising s n mid k h m lt)) (sym e) (sym g))
+      (λ m. let z : k ≡ mid = omega arith in lt_apart c f _ _ l (sym (ap (code s) (sym z) ∙ e)) (sym (ap (fact s) (sym z) ∙ g)))
+      (cases_lt mid k)
+
+-- no pair is of a step or of a fact that there is not, and none has code 2
 module _ (s : List ℕ) (c f : ℕ) (h : verdict s ≡ 0) where
   pub past_steps : 4 * steps s + 2 < c → has_pair s c f ≡ false
   past_steps far = none_among s c f (pairs s) (λ k lt e g. let l = scan_known s (pairs s) k (lawful_scan s h) lt in omega arith)
+
+  pub past_facts : facts s < f → has_pair s c f ≡ false
+  past_facts far = none_among s c f (pairs s) (λ k lt e g. let l = scan_known s (pairs s) k (lawful_scan s h) lt in omega arith)
+
+  pub no_fact_0 : f ≡ 0 → has_pair s c f ≡ false
+  no_fact_0 z = none_among s c f (pairs s) (λ k lt e g. let l = scan_known s (pairs s) k (lawful_scan s h) lt in omega arith)
 
   pub no_code_2 : c ≡ 2 → has_pair s c f ≡ false
   no_code_2 z = none_among s c f (pairs s) (λ k lt e g. let l = scan_known s (pairs s) k (lawful_scan s h) lt in l.3 (e ∙ z))

@@ -19,7 +19,7 @@ module _ (s : List ℕ) (sets : List FactSet) (h : verdict s ≡ 0) (t : Collect
       let head = lawful_head s h in
       let scanned = lawful_scan s h in
       ⊎_elim
-      (λ (l : c < 516). under_listed s sets (pairs s) refl head.1 scanned t c l)
+      (λ (l : c < 516). under_listed s sets (pairs s) refl head.1 scanned t c empty_set l)
       (λ (l : 516 ≤ c). set_is_listed s (get_or sets c empty_set) c head.1 scanned (λ f. ap (has f) (under_past sets c (omega (arith, t.long))) ∙ sym (past_steps s c f h (omega (arith, head.2)))))
       (cases_lt c 516)
 

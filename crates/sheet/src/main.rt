@@ -8,6 +8,5 @@ fn main(rt: HostRuntime) -> anyhow::Result<()> {
     let heap = rt.alloc();
     answer_input(heap, rt.stdin(), &mut rt.stdout(), |input| {
         sheet_request(heap, input)
-    })?;
-    Ok(())
+    })
 }

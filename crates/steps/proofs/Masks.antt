@@ -1,5 +1,5 @@
 -- Sets of facts as bits: what each set holds by its bits, and what holds of common bits.
-use Rattle.std.proofs.Common.{◌≡◌, ℕ, ◌+◌, ◌-◌, ◌^◌, ◌<◌, ◌≤◌, Bool, true, false, not, MatchBool, ◌&&◌, ◌||◌, eqb, leb, sym, refl, ap, ◌∙◌, inl, inr, ⊎_elim, arith}
+use Rattle.std.proofs.Common.{◌≡◌, ℕ, ◌+◌, ◌-◌, ◌^◌, ◌<◌, ◌≤◌, Bool, true, false, not, MatchBool, ◌&&◌, ◌||◌, eqb, leb, ◌⊎◌, sym, refl, ap, ◌∙◌, inl, inr, ⊎_elim, arith}
 use mathlib.Core.Bool.{false≢true}
 use Rattle.std.specs.Int.{w64, bit_at, bit_not, trailing_zeros}
 use Rattle.std.specs.Int.RustNames.{bit_and, bit_or}
@@ -11,7 +11,7 @@ use Rattle.rules.specs.Lists.{has, shares}
 use Rattle.steps.specs.declared.fact_set.FactSet.{FactSet}
 use Rattle.steps.specs.Sets.{bit, facts_in, Subset}
 use Rattle.rules.proofs.Tests.{same, any_in, in_any, has_in, in_has}
-use Rattle.steps.proofs.Kept.{Outside, has_bit, has_no_bit}
+use Rattle.steps.proofs.Kept.{Outside, has_bit, has_no_bit, not_within}
 
 abbrev within : ℕ → Bool
 within f = leb 1 f && leb f 64
@@ -24,7 +24,7 @@ has_is s f =
     (λ (l : 1 ≤ f).
     ⊎_elim
     (λ (u : f < 65). has_bit s f l (omega arith) ∙ sym (ap (λ (t : Bool). t && bit s.bits f) (and_from _ _ (le-leb 1 f l) (le-leb f 64 (omega arith)))))
-    (λ (u : 64 < f). has_no_bit s f (inr (l, u)) ∙ sym (and_left (within f) _ (and_right _ _ (lt-leb f 64 u))))
+    (λ (u : 64 < f). has_no_bit s f (inr u) ∙ sym (and_left (within f) _ (and_right _ _ (lt-leb f 64 u))))
     (cases_lt f 65))
     (cases_lt f 1)
 
@@ -84,10 +84,13 @@ with_has s fact h k r e f =
         grind (arith, nat_tests)
 
 -- no fact outside 1 to 64 is added
-pub with_none : (s : FactSet) (fact : ℕ) → Outside fact → (f : ℕ) → has f (facts_in s) ≡ ((eqb f fact && (leb 1 fact && leb fact 64)) || has f (facts_in s))
+pub with_none : (s : FactSet) (fact : ℕ) → (fact < 1) ⊎ (65 ≤ fact) → (f : ℕ) → has f (facts_in s) ≡ ((eqb f fact && (leb 1 fact && leb fact 64)) || has f (facts_in s))
 with_none s fact o f =
-    let none : within fact ≡ false = ⊎_elim (λ (l : fact < 1). and_left _ _ (lt-leb 1 fact l)) (λ (u : (1 ≤ fact) × (64 < fact)). and_right _ _ (lt-leb fact 64 u.1)) o in
+    let none : within fact ≡ false = ⊎_elim (λ (l : fact < 1). and_left _ _ (lt-leb 1 fact l)) (λ (u : 65 ≤ fact). and_right _ _ (lt-leb fact 64 u)) o in
     sym (ap (λ t. t || has f (facts_in s)) (and_right (eqb f fact) _ none))
+
+pub with_outside : (s : FactSet) (fact : ℕ) → Outside fact → (f : ℕ) → has f (facts_in s) ≡ ((eqb f fact && (leb 1 fact && leb fact 64)) || has f (facts_in s))
+with_outside s fact o f = with_none s fact (not_within fact o) f
 
 -- a number that is not 0 has the bit of a fact, and 0 has none
 some_bit : (n : ℕ) → n < 2 ^ 64 → (n ≡ 0 → ⊥) → (f : ℕ) × (within f ≡ true) × (bit n f ≡ true)

@@ -1,10 +1,10 @@
 -- A literal written in place: its minus, its space, and its digits from the last to the first.
-use Rattle.std.proofs.Common.{◌≡◌, ℕ, ◌+◌, ◌-◌, ◌/◌, ◌%◌, ◌<◌, ◌≤◌, Bool, true, false, List, [], ◌∷◌, ◌++◌, length, get_or, take, drop, set, ℤ, pos, nat_abs, decimal, sym, ap, ◌∙◌, ⊎_elim, arith}
+use Rattle.std.proofs.Common.{◌≡◌, ℕ, ◌+◌, ◌-◌, ◌/◌, ◌%◌, ◌<◌, ◌≤◌, Bool, true, false, List, [], ◌∷◌, ◌++◌, length, get_or, take, drop, set, ℤ, pos, nat_abs, decimal, sym, refl, ap, ◌∙◌, subst, ⊎_elim, arith}
 use lib.Signed.{lt_z}
 use mir.Val.{bool_byte}
 use Rattle.text.specs.Lines.{literal_text}
 use Rattle.std.proofs.lemmas.Fmt.{decimal_digit, decimal_step}
-use Rattle.std.proofs.lemmas.List.{append_assoc, length-append, length-set, length-take-le, drop_more, drop-set, take-set-le, take_more_set, take-take, take_at, drop_at, take-append-drop, get_or_at, get_or-take}
+use Rattle.std.proofs.lemmas.List.{append_assoc, length-append, length-set, length-take-le, drop_more, drop-set, drop_all, take-set, take-set-le, take_more_set, take_all, take-take, take_at, drop_at, take-append-drop, get_or_at, get_or-take, get_or-set_same}
 use Rattle.std.proofs.lemmas.Bool.{cases_lt, cases_Bool}
 use Rattle.text.proofs.Written.{one_digit, digit_more, literal_positive, literal_negative}
 
@@ -22,8 +22,16 @@ last_digit left small m e =
     ap (λ ds. get_or ds m 0) s ∙ get_or_at (decimal (left / 10)) (48 + left % 10) [] 0 m n)
     (cases_lt left 10)
 
+-- j digits are written, and the others are those of left
+pub record Partly (ws D head : List ℕ) (first n j left : ℕ) (vs : List ℕ) : Type 0 where
+  pub long : length vs ≡ length ws
+  pub front : take first vs ≡ head
+  pub back : drop (first + (n - j)) vs ≡ drop (n - j) D ++ (32 ∷ drop (first + n + 1) ws)
+  pub number : j < n → decimal left ≡ take (n - j) D
+  pub small : left < 1000000
+
 -- the digits from place i on are written, and the others are those of left
-pub record Partly (ws D head : List ℕ) (first n i left : ℕ) (vs : List ℕ) : Type 0 where
+pub record PartlyFrom (ws D head : List ℕ) (first n i left : ℕ) (vs : List ℕ) : Type 0 where
   pub from : first ≤ i
   pub upto : i ≤ first + n
   pub long : length vs ≡ length ws
@@ -31,6 +39,24 @@ pub record Partly (ws D head : List ℕ) (first n i left : ℕ) (vs : List ℕ) 
   pub back : drop i vs ≡ drop (i - first) D ++ (32 ∷ drop (first + n + 1) ws)
   pub number : first < i → decimal left ≡ take (i - first) D
   pub small : left < 1000000
+
+pub begun : (v : List ℕ) (first n size : ℕ) → size < 1000000 → n ≡ length (decimal size) → first + n < length v → Partly (set v (first + n) 32) (decimal size) (take first (set v (first + n) 32)) first n 0 size (set v (first + n) 32)
+begun v first n size small whole room =
+    let D = decimal size in
+    let w = set v (first + n) 32 in
+    let none : n - 0 ≡ n = omega arith in
+    let long = length-set v (first + n) 32 in
+    record {
+      long = refl;
+      front = refl;
+      back =
+          ap (λ k. drop (first + k) w) none
+          ∙ drop_more w (first + n) 0 (omega arith)
+          ∙ ap (λ x. x ∷ drop (first + n + 1) w) (get_or-set_same v (first + n) 32 0 room)
+          ∙ sym (ap (λ k. drop k D ++ (32 ∷ drop (first + n + 1) w)) none ∙ ap (λ l. l ++ (32 ∷ drop (first + n + 1) w)) (drop_all n D (omega (arith, whole))));
+      number = λ l. sym (ap (λ k. take k D) none ∙ take_all n D (omega (arith, whole)));
+      small = small;
+    }
 
 -- the literal's parts: a minus or none, the digits, the space
 module _ (z l : ℤ) (m : ℕ) (is : z ≡ l) (size : m ≡ nat_abs z) where
@@ -47,19 +73,28 @@ module _ (z l : ℤ) (m : ℕ) (is : z ≡ l) (size : m ≡ nat_abs z) where
       (λ (y : lt_z z (pos 0) ≡ false). omega (arith, ap length (literal_positive l m (negative false y) same), length-append (decimal m) (32 ∷ []), ap bool_byte y, e))
       (cases_Bool (lt_z z (pos 0)))
 
-  pub literal_joined : (ws : List ℕ) → 0 < length ws → take (bool_byte (lt_z z (pos 0))) (set ws 0 45) ++ (decimal m ++ (32 ∷ [])) ≡ literal_text l
-  literal_joined ws h =
+  pub literal_joined : (ws : List ℕ) (at : ℕ) → at < length ws → take (at + bool_byte (lt_z z (pos 0))) (set ws at 45) ++ (decimal m ++ (32 ∷ [])) ≡ take at ws ++ literal_text l
+  literal_joined ws at h =
       ⊎_elim
       (λ (y : lt_z z (pos 0) ≡ true).
-      ap (λ (b : Bool). take (bool_byte b) (set ws 0 45) ++ (decimal m ++ (32 ∷ []))) y
-      ∙ ap (λ xs. xs ++ (decimal m ++ (32 ∷ []))) (take_more_set ws 0 45 h)
-      ∙ sym (literal_negative l m (negative true y) same))
+      ap (λ (b : Bool). take (at + bool_byte b) (set ws at 45) ++ (decimal m ++ (32 ∷ []))) y
+      ∙ ap (λ xs. xs ++ (decimal m ++ (32 ∷ []))) (take_more_set ws at 45 h)
+      ∙ append_assoc (take at ws) (45 ∷ []) (decimal m ++ (32 ∷ []))
+      ∙ ap (λ xs. take at ws ++ xs) (sym (literal_negative l m (negative true y) same)))
       (λ (y : lt_z z (pos 0) ≡ false).
-      ap (λ (b : Bool). take (bool_byte b) (set ws 0 45) ++ (decimal m ++ (32 ∷ []))) y
-      ∙ sym (literal_positive l m (negative false y) same))
+      ap (λ (b : Bool). take (at + bool_byte b) (set ws at 45) ++ (decimal m ++ (32 ∷ []))) y
+      ∙ ap (λ k. take k (set ws at 45) ++ (decimal m ++ (32 ∷ []))) (let e : at + 0 ≡ at = omega arith in e)
+      ∙ ap (λ xs. xs ++ (decimal m ++ (32 ∷ []))) (take-set ws at 45)
+      ∙ ap (λ xs. take at ws ++ xs) (sym (literal_positive l m (negative false y) same)))
       (cases_Bool (lt_z z (pos 0)))
 
-module _ (ws D head : List ℕ) (first n i left : ℕ) (vs : List ℕ) (h : Partly ws D head first n i left vs) (whole : length D ≡ n) where
+  -- where it stands at the front
+  pub literal_front : (ws : List ℕ) → 0 < length ws → take (bool_byte (lt_z z (pos 0))) (set ws 0 45) ++ (decimal m ++ (32 ∷ [])) ≡ literal_text l
+  literal_front ws h =
+      let e : bool_byte (lt_z z (pos 0)) ≡ 0 + bool_byte (lt_z z (pos 0)) = omega arith in
+      ap (λ k. take k (set ws 0 45) ++ (decimal m ++ (32 ∷ []))) e ∙ literal_joined ws 0 h
+
+module _ (ws D head : List ℕ) (first n i left : ℕ) (vs : List ℕ) (h : PartlyFrom ws D head first n i left vs) (whole : length D ≡ n) where
   module _ (l : first < i) (room : first + n < length ws) where
     long_left : length (decimal left) ≡ i - first
     long_left = ap length (h.number l) ∙ length-take-le (i - first) D (omega (arith, h.upto, whole))
@@ -69,8 +104,8 @@ module _ (ws D head : List ℕ) (first n i left : ℕ) (vs : List ℕ) (h : Part
         let m : length (decimal left) ≡ i - 1 - first + 1 = omega (arith, long_left) in
         sym (get_or-take (i - first) D (i - 1 - first) 0 (omega arith)) ∙ ap (λ ds. get_or ds (i - 1 - first) 0) (sym (h.number l)) ∙ last_digit left h.small (i - 1 - first) m
 
-    pub more : Partly ws D head first n (i - 1) (left / 10) (set vs (i - 1) (48 + left % 10))
-    more =
+    pub more_from : PartlyFrom ws D head first n (i - 1) (left / 10) (set vs (i - 1) (48 + left % 10))
+    more_from =
         let d = 48 + left % 10 in
         let place : i - 1 + 1 ≡ i = omega arith in
         let up : i - 1 - first + 1 ≡ i - first = omega arith in
@@ -112,8 +147,51 @@ module _ (ws D head : List ℕ) (first n i left : ℕ) (vs : List ℕ) (h : Part
     long_front : length (head ++ (D ++ (32 ∷ []))) ≡ first + n + 1
     long_front = omega (arith, length-append head (D ++ (32 ∷ [])), length-append D (32 ∷ []), ap length h.front, length-take-le first vs (omega (arith, h.long)), whole)
 
+    pub written_from : take (first + n + 1) vs ≡ head ++ (D ++ (32 ∷ []))
+    written_from = ap (take (first + n + 1)) apart ∙ take_at (head ++ (D ++ (32 ∷ []))) (drop (first + n + 1) ws) (first + n + 1) long_front
+
+    pub rest_from : drop (first + n + 1) vs ≡ drop (first + n + 1) ws
+    rest_from = ap (drop (first + n + 1)) apart ∙ drop_at (head ++ (D ++ (32 ∷ []))) (drop (first + n + 1) ws) (first + n + 1) long_front
+
+-- the same by how many digits are written
+module _ (ws D head : List ℕ) (first n j left : ℕ) (vs : List ℕ) where
+  by_place : Partly ws D head first n j left vs → PartlyFrom ws D head first n (first + (n - j)) left vs
+  by_place h =
+      let e : first + (n - j) - first ≡ n - j = omega arith in
+      record {
+        from = omega arith;
+        upto = omega arith;
+        long = h.long;
+        front = h.front;
+        back = h.back ∙ ap (λ k. drop k D ++ (32 ∷ drop (first + n + 1) ws)) (sym e);
+        number = λ l. h.number (omega arith) ∙ ap (λ k. take k D) (sym e);
+        small = h.small;
+      }
+
+  by_count : PartlyFrom ws D head first n (first + (n - j)) left vs → Partly ws D head first n j left vs
+  by_count h =
+      let e : first + (n - j) - first ≡ n - j = omega arith in
+      record {
+        long = h.long;
+        front = h.front;
+        back = h.back ∙ ap (λ k. drop k D ++ (32 ∷ drop (first + n + 1) ws)) e;
+        number = λ l. h.number (omega arith) ∙ ap (λ k. take k D) e;
+        small = h.small;
+      }
+
+module _ (ws D head : List ℕ) (first n j left : ℕ) (vs : List ℕ) (h : Partly ws D head first n j left vs) (whole : length D ≡ n) where
+  module _ (l : j < n) (room : first + n < length ws) where
+    pub more : Partly ws D head first n (j + 1) (left / 10) (set vs (first + (n - (j + 1))) (48 + left % 10))
+    more =
+        let i = first + (n - j) in
+        let e : i - 1 ≡ first + (n - (j + 1)) = omega arith in
+        by_count ws D head first n (j + 1) (left / 10) _
+        (subst (λ k. PartlyFrom ws D head first n k (left / 10) (set vs k (48 + left % 10))) e
+        (more_from ws D head first n i left vs (by_place ws D head first n j left vs h) whole (omega arith) room))
+
+  module _ (l : n ≤ j) (room : first + n < length ws) where
     pub written : take (first + n + 1) vs ≡ head ++ (D ++ (32 ∷ []))
-    written = ap (take (first + n + 1)) apart ∙ take_at (head ++ (D ++ (32 ∷ []))) (drop (first + n + 1) ws) (first + n + 1) long_front
+    written = written_from ws D head first n (first + (n - j)) left vs (by_place ws D head first n j left vs h) whole (omega arith) room
 
     pub rest : drop (first + n + 1) vs ≡ drop (first + n + 1) ws
-    rest = ap (drop (first + n + 1)) apart ∙ drop_at (head ++ (D ++ (32 ∷ []))) (drop (first + n + 1) ws) (first + n + 1) long_front
+    rest = rest_from ws D head first n (first + (n - j)) left vs (by_place ws D head first n j left vs h) whole (omega arith) room

@@ -68,8 +68,13 @@ scan_le m a (b ∷ bs) =
 pub few : (bs : List ℕ) (used : ℕ) → used ≤ length bs → length (parse (numbers (take used bs))) ≤ used
 few bs used h = omega (arith, count_le (numbers (take used bs)), scan_le false 0 (take used bs), length-take-le used bs h)
 
-pub room_here : (c : Clause) (i size : ℕ) → i < length c → length (line_text c) ≤ size → length (each literal_text (take i c)) + length (literal_text (get_or c i (pos 0))) ≤ size
-room_here c i size h l =
+pub drop_later : {X : Type 0} (xs ys : List X) (n k : ℕ) → drop n xs ≡ drop n ys → n ≤ k → drop k xs ≡ drop k ys
+drop_later xs ys n k e l =
+    let m : n + (k - n) ≡ k = omega arith in
+    ap (λ j. drop j xs) (sym m) ∙ sym (drop-drop (k - n) n xs) ∙ ap (drop (k - n)) e ∙ drop-drop (k - n) n ys ∙ ap (λ j. drop j ys) m
+
+pub room_here : (used : ℕ) (c : Clause) (i size : ℕ) → i < length c → used + length (line_text c) ≤ size → used + length (each literal_text (take i c)) + length (literal_text (get_or c i (pos 0))) ≤ size
+room_here used c i size h l =
     omega (
       arith,
       ap length (literals_more c i h),

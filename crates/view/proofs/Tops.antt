@@ -63,6 +63,16 @@ line_first : (l : List ℕ) (ls : List (List ℕ)) (t : List ℕ) → ended (l �
 line_first l ls t = append_assoc (l ++ (10 ∷ [])) (ended ls) t ∙ append_assoc l (10 ∷ []) (ended ls ++ t)
 
 module _ (text : List ℕ) (v c : ℕ) (body : List ℕ) where
+  -- a head without comments is the first line
+  pub headed_first : v ≤ 999999 → c ≤ 999999 → (line : List ℕ) → Cut text line body → line ≡ head_line v c → Headed text v c body
+  headed_first hv hc line cut e = record {
+    comments = [];
+    whole = tt;
+    narrow = hv;
+    few = hc;
+    is = cut.parts ∙ ap (λ l. l ++ (10 ∷ body)) e ∙ sym (line_first (head_line v c) [] body);
+  }
+
   -- a comment before a headed text
   pub headed_more : (bytes rest : List ℕ) → Cut text (comment bytes) rest → Headed rest v c body → Headed text v c body
   headed_more bytes rest cut h = record {
@@ -136,9 +146,15 @@ headed_once text v w c d a b h k = go text h.comments h.whole h.is k
 -- the head line
 
 module _ (line : List ℕ) where
+  pub head_unmarked : ((rest : List ℕ) → line ≡ head_mark ++ rest → ⊥) → ReadsHead line None
+  head_unmarked none v c hv hc e = none _ e
+
   module _ (rest : List ℕ) (mark : line ≡ head_mark ++ rest) where
     after_mark : (v c : ℕ) → line ≡ head_line v c → rest ≡ decimal v ++ (32 ∷ decimal c)
     after_mark v c e = append_cancel_left head_mark rest (decimal v ++ (32 ∷ decimal c)) (sym mark ∙ e)
+
+    pub head_unsplit : has 32 rest ≡ false → ReadsHead line None
+    head_unsplit h v c hv hc e = both_ways (has 32 rest) h (ap (has 32) (after_mark v c e) ∙ has_end 32 (decimal v) (decimal c))
 
     module _ (front back : List ℕ) (s : CutAt 32 rest front back) where
       parts_are : (v c : ℕ) → v ≤ 999999 → line ≡ head_line v c → (front ≡ decimal v) × (back ≡ decimal c)
@@ -177,3 +193,6 @@ module _ (text left line rest : List ℕ) (cut : Cut left line rest) (to : (v c 
   module _ (other : get_or line 0 0 ≡ 99 → ⊥) where
     pub front_none : ReadsHead line None → Unheaded text
     front_none none v c body h = let a = at_head left line rest cut other v c body (to v c body h) in none v c a.0 a.1 a.2
+
+  pub front_read : (v c : ℕ) → ReadsHead line (Some (v, c)) → Headed text v c rest
+  front_read v c r = from v c rest (headed_first left v c rest r.0 r.1 line cut r.2)

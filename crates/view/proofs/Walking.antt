@@ -1,9 +1,9 @@
 -- A body walked word by word.
-use Rattle.std.proofs.Common.{◌≡◌, ℕ, zero, suc, ◌+◌, ◌-◌, Bool, true, false, cond, eqb, List, [], ◌∷◌, map, length, drop, ℤ, sym, refl, ap, ◌∙◌, arith}
+use Rattle.std.proofs.Common.{◌≡◌, ℕ, zero, suc, ◌+◌, ◌-◌, ◌<◌, ◌≤◌, Bool, true, false, cond, eqb, List, [], ◌∷◌, map, length, drop, ℤ, Some, None, Option, sym, refl, ap, ◌∙◌, arith}
 use Rattle.std.proofs.lemmas.Bool.{and_parts, and_right, eqb-true, ne_eqb, not-true, false≢true, cond-true}
 use Rattle.std.proofs.lemmas.List.{length-drop, drop-drop}
-use Rattle.clauses.specs.Walk.{Word}
-use Rattle.clauses.specs.Rows.{ends, is_zero}
+use Rattle.clauses.specs.Walk.{Word, Reads}
+use Rattle.clauses.specs.Rows.{parse, ends, is_zero}
 use Rattle.clauses.proofs.Rows.{word_read}
 use Rattle.view.specs.Body.{value_of, numbers, clauses_of, is_nought, shuts}
 use Rattle.view.specs.Reads.{Shut}
@@ -72,10 +72,21 @@ ends_shut a (w ∷ ws) h = ends_more (is_nought w) (is_zero (value_of w)) (map v
 pub shut : (t : List ℕ) → shuts true (words_of t) ≡ true → Shut t
 shut t h p = ends_shut true (words_of (drop p t)) (shuts_drop t p h)
 
--- the first word of the text from a place on, as a walk reads it
-pub reads : (text : List ℕ) (place : ℕ) (word rest : List ℕ) → NextWord (drop place text) word rest → shuts true (words_of text) ≡ true → Word (value_of word) (clauses_of (drop place text)) (clauses_of (drop (length text - length rest) text))
-reads text place word rest next h =
+-- the next number from a place on, and the place after it
+abbrev pub Next : List ℕ → ℕ → Option (ℤ × ℕ) → Type 0
+Next text place None = numbers (drop place text) ≡ []
+Next text place (Some p) = (numbers (drop place text) ≡ p.0 ∷ numbers (drop p.1 text)) × (place < p.1) × (p.1 ≤ length text)
+
+-- the next word, as a walk reads it
+pub reads : (text : List ℕ) (place : ℕ) (r : Option (ℤ × ℕ)) → Shut text → Next text place r → Reads (clauses_of (drop place text)) (λ p. clauses_of (drop p text)) r
+reads text place None s n = ap parse n
+reads text place (Some p) s n = word_read (numbers (drop place text)) p.0 (numbers (drop p.1 text)) (s place) n.0
+
+-- the first word of the text from a place on, by what stands after it
+pub reads_first : (text : List ℕ) (place : ℕ) (word rest : List ℕ) → NextWord (drop place text) word rest → shuts true (words_of text) ≡ true → Word (value_of word) (clauses_of (drop place text)) (clauses_of (drop (length text - length rest) text))
+reads_first text place word rest next h =
     let long = length-drop place text in
     let n : place + (length (drop place text) - length rest) ≡ length text - length rest = omega (arith, next.shorter, long) in
     let is : rest ≡ drop (length text - length rest) text = next.stands ∙ drop-drop (length (drop place text) - length rest) place text ∙ ap (λ k. drop k text) n in
-    word_read (numbers (drop place text)) (value_of word) (numbers (drop (length text - length rest) text)) (shut text h place) (ap (map value_of) next.cuts ∙ ap (λ r. value_of word ∷ numbers r) is)
+    let word_is : numbers (drop place text) ≡ value_of word ∷ numbers (drop (length text - length rest) text) = ap (map value_of) next.cuts ∙ ap (λ r. value_of word ∷ numbers r) is in
+    reads text place (Some (value_of word, length text - length rest)) (shut text h) (word_is, omega (arith, next.shorter, long), omega arith)

@@ -16,8 +16,6 @@ impl<'a> Source for WordSink<'a> {
 
     ghost rest = { λ s place. parse (drop place (take s.used s.words.now)) };
 
-    ghost end = { λ s. s.used };
-
     fn clause_count(&self) -> usize {
         self.count
     }

@@ -18,8 +18,6 @@ impl<'a> Source for TextSink<'a> {
 
     ghost rest = { λ s place. parse (numbers (drop place (take s.used s.bytes.now))) };
 
-    ghost end = { λ s. s.used };
-
     fn clause_count(&self) -> usize {
         self.count
     }

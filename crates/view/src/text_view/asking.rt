@@ -16,8 +16,6 @@ impl<'a> Source for TextView<'a> {
 
     ghost rest = { λ s place. clauses_of (drop place s.body.now) };
 
-    ghost end = { λ s. length s.body.now };
-
     fn clause_count(&self) -> usize {
         self.clauses
     }

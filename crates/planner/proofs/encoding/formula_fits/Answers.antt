@@ -9,18 +9,18 @@ use Rattle.planner.proofs.encoding.formula_fits.Goals as goal
 pub overflow_mul-literals : goal.overflow_mul-literals
 overflow_mul-literals g c =
     let t = c.args.formula.now.table in
-    omega (arith, c.requires.summed, few_literals (means t) t.few.0 t.few.1 (g.R.SlotRule.parts c.args.formula.now.rule.now) c.args.formula.now.horizon (omega (arith, c.args.formula.now.small)))
+    omega (arith, c.args.formula.now.small, c.requires.summed, few_literals (means t) t.few.0 t.few.1 (g.R.SlotRule.parts c.args.formula.now.rule.now) c.args.formula.now.horizon)
 
 pub overflow_mul-clauses : goal.overflow_mul-clauses
 overflow_mul-clauses g c =
     let t = c.args.formula.now.table in
-    omega (arith, c.requires.counted, few_clauses (means t) t.few.0 t.few.1 (g.R.SlotRule.parts c.args.formula.now.rule.now) c.args.formula.now.horizon (omega (arith, c.args.formula.now.small)))
+    omega (arith, c.args.formula.now.small, c.requires.counted, few_clauses (means t) t.few.0 t.few.1 (g.R.SlotRule.parts c.args.formula.now.rule.now) c.args.formula.now.horizon)
 
 pub overflow_add-literals : goal.overflow_add-literals
 overflow_add-literals g c =
     let t = c.args.formula.now.table in
     let rule = g.R.SlotRule.parts c.args.formula.now.rule.now in
-    omega (arith, c.requires.counted, c.requires.summed, few_literals (means t) t.few.0 t.few.1 rule c.args.formula.now.horizon (omega (arith, c.args.formula.now.small)), few_clauses (means t) t.few.0 t.few.1 rule c.args.formula.now.horizon (omega (arith, c.args.formula.now.small)))
+    omega (arith, c.args.formula.now.small, c.requires.counted, c.requires.summed, few_literals (means t) t.few.0 t.few.1 rule c.args.formula.now.horizon, few_clauses (means t) t.few.0 t.few.1 rule c.args.formula.now.horizon)
 
 pub returns-then-literals-clauses : goal.returns-then-literals-clauses
 returns-then-literals-clauses g c =

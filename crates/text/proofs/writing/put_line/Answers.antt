@@ -18,7 +18,7 @@ put_literal-at-requires-clause-room c =
       c.loop-l.invariant.1,
       ap length (take_rest c.loop-l.bytes c.loop-l.at) ∙ length-drop c.loop-l.at c.loop-l.bytes,
       ap (λ (z : ℤ). length (literal_text z)) (to_z-of_z w32 (get_or xs i (pos 0)) f),
-      room_here xs i (length c.args.bytes.now) c.loop-l-test.true c.requires.room,
+      room_here 0 xs i (length c.args.bytes.now) c.loop-l-test.true (omega (arith, c.requires.room)),
     )
 
 pub loop-l-preserved : goal.loop-l-preserved

@@ -19,5 +19,5 @@ pub loop-i-preserved : goal.loop-i-preserved
 loop-i-preserved c =
     let pair = c.pair-pair in
     let k = known_pair _ _ _ _ c.loop-i.i c.args.self.now.sized c.requires.scanned c.loop-i-test.true in
-    collect_more _ c.loop-i.sets c.loop-i.i pair.result.code pair.result.fact c.with.result c.loop-i.invariant pair.ensures.has_code pair.ensures.has_fact
+    collect_more _ c.loop-i.sets c.loop-i.i pair.result.code pair.result.fact c.with.result _ c.loop-i.invariant pair.ensures.has_code pair.ensures.has_fact
     (omega (arith, k.0, pair.ensures.has_code)) (omega (arith, k.1, pair.ensures.has_fact)) (omega (arith, k.2, pair.ensures.has_fact)) c.with.ensures.adds_the_fact

@@ -9,13 +9,16 @@ use Rattle.text.specs.Scan.{numbers}
 use Rattle.text.proofs.Rendering.{shut}
 use Rattle.text.proofs.lines.asking.TextSinkSource.word_at.Goals as goal
 
-pub returns-in_err-word-clause-reads_word : goal.returns-in_err-word-clause-reads_word
-returns-in_err-word-clause-reads_word c =
+pub returns-in_err-word : goal.returns-in_err-word
+returns-in_err-word c =
     let s = c.args.self.now in
-    rw c.from_residual.ensures (ap parse (ap numbers (sym (between_is s.bytes.now c.args.place s.used)) ∙ c.in_err-word.ensures.reads_number))
+    record {
+      reads_word =
+          rw c.from_residual.ensures (ap parse (ap numbers (sym (between_is s.bytes.now c.args.place s.used)) ∙ c.in_err-word.ensures.reads_number));
+    }
 
-pub returns-clause-reads_word : goal.returns-clause-reads_word
-returns-clause-reads_word c =
+pub returns : goal.returns
+returns c =
     let s = c.args.self.now in
     let bs = take s.used s.bytes.now in
     let x = c.in_ok-word.word in
@@ -25,5 +28,8 @@ returns-clause-reads_word c =
     let all = between_is s.bytes.now c.args.place s.used in
     let more = ap numbers (ap (drop long) all ∙ drop-drop long c.args.place bs) in
     let is : numbers (drop c.args.place bs) ≡ x ∷ ys = ap numbers (sym all) ∙ c.in_ok-word.ensures.reads_number.0 ∙ ap (λ ws. x ∷ ws) more in
-    subst (λ (z : ℤ). Word z (parse (numbers (drop c.args.place bs))) (parse ys)) (sym (to_z-of_z w32 x f))
-    (word_read (numbers (drop c.args.place bs)) x ys (shut bs s.rendered s.granted c.args.place) is)
+    record {
+      reads_word =
+          subst (λ (z : ℤ). Word z (parse (numbers (drop c.args.place bs))) (parse ys)) (sym (to_z-of_z w32 x f))
+          (word_read (numbers (drop c.args.place bs)) x ys (shut bs s.rendered s.granted c.args.place) is);
+    }
