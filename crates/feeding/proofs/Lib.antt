@@ -1,2 +1,3 @@
+pub mod FirstCases
 pub mod Reading
 pub mod Records

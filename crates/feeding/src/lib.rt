@@ -6,5 +6,5 @@ mod cases;
 mod tests;
 mod whole;
 
-pub use cases::{answer_cases, next_record};
+pub use cases::{answer_cases, answer_first_cases, next_case, next_record};
 pub use whole::answer_input;

@@ -3,12 +3,12 @@
 // What it prints is compared with what an independent program made of the same inputs (tests/oracle).
 #![tactic(auto)]
 
-use feeding::answer_cases;
+use feeding::answer_first_cases;
 use sheet_call::sheet_request;
 
 fn main(rt: HostRuntime) -> anyhow::Result<()> {
     let heap = rt.alloc();
-    answer_cases(heap, rt.stdin(), &mut rt.stdout(), |input| {
+    answer_first_cases(heap, rt.stdin(), &mut rt.stdout(), |input| {
         sheet_request(heap, input)
     })
 }
