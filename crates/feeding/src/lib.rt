@@ -1,4 +1,5 @@
 // What the programs do with standard input and output: bytes in, a call's bytes out.
+// Each function takes its heap, input, output and call apart: a struct of the four would be made for that one call, and no plainer.
 #![tactic(auto)]
 
 mod cases;
