@@ -1,4 +1,5 @@
 // Many inputs in one, each after its length, low byte first. A record's length is four bytes. A case's is three and a fourth byte that is passed over, and 99,999 cases are the most: so the programs read them.
+// There are two functions of each kind, since one for both formats would take the format as an argument, and the programs' loop would change for it.
 ghost use Rattle.std.specs.Prelude.{◌≡◌, ◌++◌, MatchOption, IfOk, OnOk, IfSome, Ok, List, ℕ};
 ghost use Rattle.std.specs.Fn.{FnReturnsAt};
 ghost use Rattle.std.specs.Io.KnownBytes.{Appends};

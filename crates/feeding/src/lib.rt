@@ -1,5 +1,5 @@
 // What the programs do with standard input and output: bytes in, a call's bytes out.
-// Each function takes its heap, input, output and call apart: a struct of the four would be made for that one call, and no plainer.
+// The heap, the input, the output and the call stay four parameters: a struct of them would be made for one call and taken apart in it, and no plainer.
 #![tactic(auto)]
 
 mod cases;
